@@ -15,7 +15,7 @@ abbrev pub heightOver : Float → Float → Float → Float → Height
 heightOver n d h0 h1 = cond (eq d zero32) None (Known (add binary32 h0 (mul binary32 (sub binary32 h1 h0) (div binary32 n d))))
 
 -- t = dot(p - a, b - a) / dot(b - a, b - a)
-abbrev pub heightAlong : Vec2 → Vec2 → Vec2 → Float → Float → Height
+unfoldable pub heightAlong : Vec2 → Vec2 → Vec2 → Float → Float → Height
 heightAlong p a b h0 h1 = heightOver (dotOf (subOf p a) (subOf b a)) (dotOf (subOf b a) (subOf b a)) h0 h1
 
 -- ---- the mean: summed left to right from the first, divided by their number
