@@ -1,2 +1,4 @@
 pub mod Bounds
+pub mod Units
+pub mod HeightBounds
 pub mod WholeNumbers
