@@ -21,7 +21,7 @@ use Rattle.geometry.specs.declared.Height.{Height}
 use Rattle.geometry.specs.declared.Height.the-variants.{Known, None}
 use Rattle.geometry.specs.declared.HeightSum.{HeightSum}
 use Rattle.geometry.specs.Plane.{zero32, subOf, dotOf, onSegment}
-use Rattle.geometry.specs.Heights.{Corner, heightOnEdge, plusHeight, firstOf, meanOf, sumFrom, heightFrom, heightIn}
+use Rattle.geometry.specs.Heights.{Corner, heightAlong, heightOnEdge, plusHeight, firstOf, meanOf, sumFrom, heightFrom, heightIn}
 use Rattle.geometry.specs.Bounds.{Within, PointWithin, CornerWithin, CornersWithin, HeightWithin}
 use Rattle.geometry.proofs.Bounds.{Held, add-within, sub-within, mul-within, div-within, widen, power}
 use Rattle.geometry.proofs.Units.{fraction, quotient-within}
@@ -39,6 +39,7 @@ apart : {k m n : ℕ} {a b : Vec2} → Held k → m + n ≤ k → PointWithin m 
 apart H h a b = record { x = sub-within H h (a .x) (b .x); y = sub-within H h (a .y) (b .y) }
 
 along-within : (p : Vec2) (a b : Corner) → PointWithin 4000000 p → CornerWithin 1000000 a → CornerWithin 1000000 b → HeightWithin (2 ^ 121) (heightOnEdge p a b)
+unfolding heightAlong
 along-within p a b P A B = go (eq d zero32) refl
   where
     e : Vec2
