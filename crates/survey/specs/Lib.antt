@@ -1,0 +1,5 @@
+pub mod Wishes
+pub mod View
+pub mod Search
+pub mod Record
+pub mod Survey

@@ -1,0 +1,84 @@
+// What a seat asks of the search: which decks are open to it, and which of two heights it prefers. The definitions of the search itself
+// and the surveyor's statement are in specs/.
+ghost use mathlib.Core.Path.{_≡_};
+ghost use Prim.Native.Nat.{_<_};
+ghost use lib.ListN.{length};
+ghost use Rattle.survey.specs.Wishes.{bitOf, isOpen, gapOf, nearer};
+use geometry::Height;
+
+// A seat names one deck or leaves the deck open.
+pub enum DeckChoice {
+    AnyDeck,
+    Named(usize),
+}
+
+// A seat has a wished height or none.
+pub enum Wish {
+    NoWish,
+    Wished(f32),
+}
+
+// The first sample of a deck's turn that hits, and the first polygon that passes there.
+pub enum Hit {
+    At(usize, usize),
+    Missed,
+}
+
+// A polygon at a sample: of a step, on a deck.
+pub struct Candidate {
+    pub step: usize,
+    pub deck: usize,
+    pub sample: usize,
+    pub polygon: usize,
+}
+
+// The bit of a number at a place from 0 to 7.
+fn bit(byte: u8, place: usize) -> bool
+    requires { ⌜ place < 8 ⌝ }
+    ensures { λ r. ⌜ r ≡ bitOf byte place ⌝ }
+{
+    match place {
+        0 => byte % 2 == 1,
+        1 => byte / 2 % 2 == 1,
+        2 => byte / 4 % 2 == 1,
+        3 => byte / 8 % 2 == 1,
+        4 => byte / 16 % 2 == 1,
+        5 => byte / 32 % 2 == 1,
+        6 => byte / 64 % 2 == 1,
+        _ => byte / 128 % 2 == 1,
+    }
+}
+
+// Whether deck d is open: the named one alone, blocked or not; otherwise those not in the blocked set.
+pub fn is_open(blocked: &[u8], choice: DeckChoice, d: usize) -> bool
+    requires { ⌜ (length (now blocked) ≡ 32) × (d < 256) ⌝ }
+    ensures { λ r. ⌜ r ≡ isOpen (now (blocked .entry)) choice d ⌝ }
+{
+    match choice {
+        DeckChoice::Named(n) => n == d,
+        DeckChoice::AnyDeck => !bit(blocked[d / 8], d % 8),
+    }
+}
+
+// |h - w|, the measure of section 7.
+fn gap(h: f32, w: f32) -> f32
+    ensures { λ r. ⌜ r ≡ gapOf h w ⌝ }
+{
+    geometry::abs(h - w)
+}
+
+// Whether a seat with this wish prefers the height a to the height b, wherever they come in the list.
+pub fn prefers_height(wish: Wish, a: Height, b: Height) -> bool
+    ensures { λ r. ⌜ r ≡ nearer wish a b ⌝ }
+{
+    match wish {
+        Wish::NoWish => false,
+        Wish::Wished(w) => match a {
+            Height::None => false,
+            Height::Known(h) => match b {
+                Height::None => true,
+                Height::Known(g) => gap(h, w) < gap(g, w),
+            },
+        },
+    }
+}
