@@ -1,4 +1,6 @@
 pub mod Bounds
+pub mod Units
+pub mod HeightBounds
 pub mod WholeNumbers
 pub mod WholePlan
 pub mod Ways
