@@ -23,6 +23,13 @@ const PROBES: [[f32; 2]; 9] = [
     [1.0, -1.0],
 ];
 
+// The table, for a caller to lend.
+pub fn all_directions() -> [i32; 2432]
+    ensures { λ r. ⌜ r ≡ directions ⌝ }
+{
+    table::DIRECTIONS
+}
+
 // The k-th number of the table, over 2^24. The table is lent, since a constant that is indexed is copied whole at each call.
 fn fraction(t: &[i32; 2432], k: usize) -> f32
     requires { ⌜ (now t ≡ directions) × (k < 2432) ⌝ }
