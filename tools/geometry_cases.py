@@ -236,21 +236,21 @@ def spelled(x):
 
 def result(letter, words, v):
     """The answer's words, or None for a case that the function does not take."""
-    points = [(v[k], v[k + 1]) for k in range(0, len(v) - 1, 2)]
+    places = [(v[k], v[k + 1]) for k in range(0, len(v) - 1, 2)]
     if letter == "S":
         s, i = words[3:5]
-        return [spelled(x) for x in sample(points[0], v[2], s, i)] if s < 16 and i <= 10 * s else None
+        return [spelled(x) for x in sample(places[0], v[2], s, i)] if s < 16 and i <= 10 * s else None
     if letter == "P":
-        return [spelled(x) for x in probe(points[0], v[2], words[3])] if words[3] < 9 else None
+        return [spelled(x) for x in probe(places[0], v[2], words[3])] if words[3] < 9 else None
     if letter == "M":
         return [spelled(mean(v[1 : 1 + words[0]]))] if 1 <= words[0] <= 4 else None
     if letter == "H":
-        h = height_along(*points[:3], v[6], v[7])
+        h = height_along(*places[:3], v[6], v[7])
         return ["-" if h is None else spelled(h)]
     if letter in "EBGT":
-        return ["%08X" % {"E": side, "B": in_bounding_box, "G": on_segment, "T": edge_test}[letter](*points)]
+        return ["%08X" % {"E": side, "B": in_bounding_box, "G": on_segment, "T": edge_test}[letter](*places)]
     if letter in "DC":
-        return [spelled({"D": dot, "C": perp_dot}[letter](*points))]
+        return [spelled({"D": dot, "C": perp_dot}[letter](*places))]
     return [spelled({"A": absolute, "N": least, "X": most}[letter](*v))]
 
 
