@@ -112,13 +112,25 @@ pub fn height_at(file: &[u8], b: Blocks, k: usize, place: Vec2) -> Height
     'edges: while j < count {
         let next = corner_point(file, b, k, j);
         if geometry::on_segment(place, a, next) {
-            return geometry::height_along(place, a, next, corner_height(file, b, k, j - 1), corner_height(file, b, k, j));
+            return geometry::height_along(
+                place,
+                a,
+                next,
+                corner_height(file, b, k, j - 1),
+                corner_height(file, b, k, j),
+            );
         }
         a = next;
         j += 1;
     }
     if geometry::on_segment(place, a, first) {
-        return geometry::height_along(place, a, first, corner_height(file, b, k, count - 1), corner_height(file, b, k, 0));
+        return geometry::height_along(
+            place,
+            a,
+            first,
+            corner_height(file, b, k, count - 1),
+            corner_height(file, b, k, 0),
+        );
     }
     Height::Known(mean_height(file, b, k))
 }

@@ -1,0 +1,5 @@
+pub mod SeatFile
+pub mod Sees
+pub mod Tally
+pub mod Run
+pub mod Statement
