@@ -2,6 +2,8 @@
 use Prim.Native.Nat.{ℕ, _*_, _≤_, _<_}
 use mathlib.Core.Path.{_≡_}
 use mathlib.Core.List.{List}
+use mathlib.Core.Bool.{cond}
+use lib.Dec.{eqb}
 use lib.ListN.{length}
 use lib.IntN.{ℤ}
 use Rattle.geometry.specs.declared.Vec2.{Vec2}
@@ -16,10 +18,17 @@ use Rattle.ship.specs.Questions.{firstNo, DeckOfPassed}
 use Rattle.ship.specs.Decode.{decode}
 use Rattle.ship.specs.Model.{Ship, deckOf}
 use Rattle.survey.specs.declared.Candidate.{Candidate}
+use Rattle.survey.specs.declared.DeckChoice.{DeckChoice}
+use Rattle.survey.specs.declared.DeckChoice.the-variants.{AnyDeck, Named}
+use Rattle.survey.specs.Record.{allOnes}
 use Rattle.survey.specs.Wishes.{isOpen}
 use Rattle.survey.specs.View.{View}
 use Rattle.search.specs.OnDeck.{passesAt, heightOn}
 use Rattle.placing.specs.declared.Seat.{Seat}
+
+-- all ones: any deck
+unfoldable pub choiceOf : ℕ → DeckChoice
+choiceOf deck = cond (eqb deck allOnes) AnyDeck (Named deck)
 
 -- a sample of (p - deck offset)
 unfoldable pub sampleOn : Ship → Vec2 → Candidate → Vec2

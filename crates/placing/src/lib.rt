@@ -7,7 +7,7 @@ ghost use Rattle.ring.specs.Table.{directions};
 ghost use Rattle.ship.specs.Blocks.{decksIn};
 ghost use Rattle.ship.specs.Decode.{decode};
 ghost use Rattle.survey.specs.Search.{passing};
-ghost use Rattle.placing.specs.Sees.{sampleOn, seenBy, OnPassedDeck, SearchReady};
+ghost use Rattle.placing.specs.Sees.{choiceOf, sampleOn, seenBy, OnPassedDeck, SearchReady};
 ghost use Rattle.placing.specs.Tally.{takeWith, tallyOf, turnTally, stepTally, placementOf, placementWords, heightWords, placedWords, TallyWithin, AfterDecks, AfterSamples, PlacedWithin, PlacementWithin};
 use geometry::Height;
 use geometry::Vec2;
@@ -52,6 +52,17 @@ pub enum Placement {
     PlacedAt(Placed),
 }
 
+// The deck that a number names, or any.
+pub fn choice_of(deck: u32) -> DeckChoice
+    ensures { λ r. ⌜ r ≡ choiceOf deck ⌝ }
+{
+    if deck == 0xFFFF_FFFF {
+        DeckChoice::AnyDeck
+    } else {
+        DeckChoice::Named(deck as usize)
+    }
+}
+
 // One candidate more.
 fn take(wish: Wish, t: Tally, c: Candidate, place: Vec2, height: Height) -> Tally
     requires { ⌜ t .candidates < 4294967296 ⌝ }
@@ -85,7 +96,7 @@ fn take(wish: Wish, t: Tally, c: Candidate, place: Vec2, height: Height) -> Tall
 }
 
 // A sample in the coordinates of its deck, which lies at b.
-fn sample_on(file: &[u8], table: &[i32; 2432], p: Vec2, b: Blocks, c: Candidate) -> Vec2
+pub fn sample_on(file: &[u8], table: &[i32; 2432], p: Vec2, b: Blocks, c: Candidate) -> Vec2
     requires { ⌜ OnPassedDeck (now file) b c × (now table ≡ directions) ⌝ }
     ensures { λ r. ⌜ r ≡ sampleOn (decode (now (file .entry))) p c ⌝ }
 {

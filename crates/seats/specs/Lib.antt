@@ -1,5 +1,3 @@
 pub mod SeatFile
-pub mod Sees
-pub mod Tally
 pub mod Run
-pub mod Statement
+pub mod Survey

@@ -2,7 +2,7 @@
 use Prim.Native.Nat.{ℕ, zero, suc, _+_, _*_, _/_, _%_}
 use mathlib.Core.List.{List}
 use mathlib.Core.Bool.{Bool, _&&_, _||_, cond}
-use lib.Dec.{eqb, ltb}
+use lib.Dec.{eqb}
 use lib.ListN.{length}
 use Rattle.geometry.specs.declared.Vec2.{Vec2}
 use Rattle.words.specs.Bytes.{u32At, f32At}
@@ -12,12 +12,11 @@ use Rattle.ship.specs.declared.FileCheck.the-variants.{Passed}
 use Rattle.ship.specs.Decode.{pointAt}
 use Rattle.ship.specs.Floats.{inSize}
 use Rattle.ship.specs.Questions.{ask, after}
-use Rattle.survey.specs.declared.DeckChoice.{DeckChoice}
-use Rattle.survey.specs.declared.DeckChoice.the-variants.{AnyDeck, Named}
 use Rattle.survey.specs.declared.Wish.{Wish}
 use Rattle.survey.specs.declared.Wish.the-variants.{NoWish, Wished}
-use Rattle.survey.specs.Record.{allOnes}
-use Rattle.seats.specs.declared.Seat.{Seat}
+use Rattle.placing.specs.declared.Seat.{Seat}
+use Rattle.placing.specs.Sees.{choiceOf}
+use Rattle.calls.specs.Answers.{question14, question17}
 
 -- ---- a seat: x, y (f32), deck (all ones: any), kind (0 or 1), height (f32)
 abbrev pub deckWord : List ℕ → ℕ → ℕ
@@ -28,9 +27,6 @@ kindWord s i = u32At s (20 * i + 12)
 
 abbrev pub heightWord : List ℕ → ℕ → ℕ
 heightWord s i = u32At s (20 * i + 16)
-
-unfoldable pub choiceOf : ℕ → DeckChoice
-choiceOf deck = cond (eqb deck allOnes) AnyDeck (Named deck)
 
 -- kind 0 has no wish
 unfoldable pub seatAt : List ℕ → ℕ → Seat
@@ -48,28 +44,23 @@ abbrev pub seatsOf : List ℕ → List Seat
 seatsOf s = rows (seatAt s) 0 (seatCount s)
 
 -- ---- the questions
--- 14 Blocked set 32 bytes?
-unfoldable pub question14 : List ℕ → Bool
-question14 blocked = eqb (length blocked) 32
-
 -- 14 Blocked set 32 bytes, seats a multiple of 20?
 unfoldable pub question14Seats : List ℕ → List ℕ → Bool
 question14Seats blocked seats = question14 blocked && eqb (length seats % 20) 0
 
 -- 15 kind 0 or 1, unused height zero bits?
-unfoldable pub question15 : List ℕ → ℕ → Bool
-question15 s i = (eqb (kindWord s i) 0 && eqb (heightWord s i) 0) || eqb (kindWord s i) 1
+unfoldable pub kindAllowed : ℕ → ℕ → Bool
+kindAllowed kind height = (eqb kind 0 && eqb height 0) || eqb kind 1
+
+abbrev pub question15 : List ℕ → ℕ → Bool
+question15 s i = kindAllowed (kindWord s i) (heightWord s i)
 
 -- 16 floats as in 11?
-unfoldable pub question16 : List ℕ → ℕ → Bool
-question16 s i = inSize (f32At s (20 * i)) && (inSize (f32At s (20 * i + 4)) && inSize (f32At s (20 * i + 16)))
-
--- 17 the named deck there?
-unfoldable pub question17 : ℕ → ℕ → Bool
-question17 decks deck = eqb deck allOnes || ltb deck decks
+unfoldable pub question16Seat : List ℕ → ℕ → Bool
+question16Seat s i = inSize (f32At s (20 * i)) && (inSize (f32At s (20 * i + 4)) && inSize (f32At s (20 * i + 16)))
 
 unfoldable pub seatCheck : List ℕ → ℕ → ℕ → FileCheck
-seatCheck s decks i = ask (question15 s i) 15 (ask (question16 s i) 16 (ask (question17 decks (deckWord s i)) 17 Passed))
+seatCheck s decks i = ask (question15 s i) 15 (ask (question16Seat s i) 16 (ask (question17 decks (deckWord s i)) 17 Passed))
 
 -- seat by seat: the n seats from i on
 unfoldable pub seatsCheck : List ℕ → ℕ → ℕ → ℕ → FileCheck

@@ -10,11 +10,11 @@ use Rattle.ship.specs.Blocks.{stepsIn}
 use Rattle.ship.specs.Decode.{decode, withStepsBytes}
 use Rattle.survey.specs.Record.{SeatRecord, allOnes}
 use Rattle.survey.specs.Survey.{SeatSurvey}
-use Rattle.seats.specs.declared.Seat.{Seat}
-use Rattle.seats.specs.declared.Answer.{Answer}
-use Rattle.seats.specs.declared.Answer.the-variants.{Refused, Wrote}
+use Rattle.placing.specs.declared.Seat.{Seat}
+use Rattle.placing.specs.Sees.{view}
+use Rattle.calls.specs.declared.Answer.{Answer}
+use Rattle.calls.specs.declared.Answer.the-variants.{Refused, Wrote}
 use Rattle.seats.specs.SeatFile.{seatsOf}
-use Rattle.seats.specs.Sees.{view}
 use Rattle.seats.specs.Run.{runAnswer, runOutput}
 
 -- R holds of the two lists' elements, one by one, and the lists are equally long
