@@ -1,5 +1,5 @@
 -- Document 01, 'The questions, in order': those of a call, and what a call answers and leaves in its output.
-use Prim.Native.Nat.{ℕ, _<_, _≤_, _^_}
+use Prim.Native.Nat.{ℕ, _<_, _^_}
 use mathlib.Core.List.{List, _++_}
 use mathlib.Core.Bool.{Bool, _&&_, _||_}
 use lib.Dec.{eqb, leb, ltb}
@@ -44,7 +44,7 @@ abbrev pub codeOf : Answer → ℤ
 codeOf (Wrote count) = pos count
 codeOf (Refused number) = negℤ (pos number)
 
--- a count of entries is below 2 ^ 62, so that both kinds of answer fit an i64
+-- a count that fits an i64
 abbrev pub AnswerFits : Answer → Type 0
-AnswerFits (Wrote count) = count < 2 ^ 62
-AnswerFits (Refused number) = number ≤ 21
+AnswerFits (Wrote count) = count < 2 ^ 63
+AnswerFits (Refused number) = Unit {0}
