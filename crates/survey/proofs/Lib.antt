@@ -1,0 +1,5 @@
+pub mod Members
+pub mod Preference
+pub mod Steps
+pub mod SurveyHolds
+pub mod SurveyUnique
