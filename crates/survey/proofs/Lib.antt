@@ -3,3 +3,4 @@ pub mod Preference
 pub mod Steps
 pub mod SurveyHolds
 pub mod SurveyUnique
+pub mod Loops

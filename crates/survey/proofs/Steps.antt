@@ -106,7 +106,7 @@ module _ (v : View) where
       (three i j)
 
   -- ---- what a turn gives
-  passing-is : (s d i k n : ℕ) → passing v s d i k n ≡ collect (λ j. v .passes (candidate s d i j)) (λ j. candidate s d i j ∷ []) k n
+  pub passing-is : (s d i k n : ℕ) → passing v s d i k n ≡ collect (λ j. v .passes (candidate s d i j)) (λ j. candidate s d i j ∷ []) k n
   unfolding passing collect
   passing-is s d i k zero = refl
   passing-is s d i k (suc n) =
@@ -161,7 +161,7 @@ module _ (v : View) where
           ∙ sum-all (λ j. v .passes (candidate s d i j)) (λ j. 1) (v .polygons d))
 
   -- ---- the candidates of a step
-  from-is : (s d n : ℕ) → candidatesFrom v s d n ≡ collect (v .opens) (λ e. given v s e (turn v s e)) d n
+  pub from-is : (s d n : ℕ) → candidatesFrom v s d n ≡ collect (v .opens) (λ e. given v s e (turn v s e)) d n
   unfolding candidatesFrom collect
   from-is s d zero = refl
   from-is s d (suc n) =
@@ -213,7 +213,7 @@ module _ (v : View) where
       none (c .deck) (h .on-open) (c .sample) (f .in-ring) (f .hits .0) (f .hits .1)
 
   -- ---- the samples tried
-  tried-from-is : (s d n : ℕ) → triedFrom v s d n ≡ sumFrom (v .opens) (λ e. triedOf s (turn v s e)) d n
+  pub tried-from-is : (s d n : ℕ) → triedFrom v s d n ≡ sumFrom (v .opens) (λ e. triedOf s (turn v s e)) d n
   unfolding triedFrom sumFrom
   tried-from-is s d zero = refl
   tried-from-is s d (suc n) = ap (λ (m : ℕ). cond (v .opens d) (triedOf s (turn v s d) + m) m) (tried-from-is s (d + 1) n)
