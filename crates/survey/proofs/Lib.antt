@@ -4,3 +4,4 @@ pub mod Steps
 pub mod SurveyHolds
 pub mod SurveyUnique
 pub mod Loops
+pub mod Ways

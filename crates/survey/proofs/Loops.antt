@@ -1,20 +1,21 @@
 -- For the loops above: one turn of each definition that goes 'from a number on, n of them', what a hit leaves to scan, and that the numbers stay small.
 use Prim.Native.Nat.{ℕ, zero, suc, _+_, _*_, _-_, _≤_, _<_}
-use mathlib.Core.Path.{_≡_, refl, sym, ap, _∙_, subst}
+use mathlib.Core.Path.{_≡_, refl, ap, _∙_, subst}
 use mathlib.Core.List.{List, [], _∷_, _++_}
 use mathlib.Core.Bool.{Bool, true, false, cond}
 use native.Mathlib.Omega.{arith}
 use native.Mathlib.Numerals.{add-one}
 use native.Mathlib.Nat.{sub-zero, mul-add}
 use lib.Dec.{T}
+use lib.Ieee.Bits.{is-true}
 use lib.ListN.{length}
 use Rattle.survey.specs.declared.Candidate.{Candidate}
 use Rattle.survey.specs.declared.Hit.{Hit}
 use Rattle.survey.specs.declared.Hit.the-variants.{At, Missed}
 use Rattle.survey.specs.View.{View, candidate}
-use Rattle.survey.specs.Search.{orElse, polygonHit, sampleHit, triedOf, turn, passing, given, candidatesFrom, candidates, triedFrom, triedIn, triedBefore, better, bestOf, Nowhere, InStep, firstStep}
+use Rattle.survey.specs.Search.{polygonHit, sampleHit, triedOf, turn, passing, given, candidatesFrom, candidates, triedFrom, triedIn, triedBefore, better, bestOf, Nowhere, InStep, firstStep}
 use Rattle.survey.proofs.Members.{length-collect, sum-bound}
-use Rattle.survey.proofs.Steps.{ring-next, HitIs, TurnIs, turn-is, passing-is, from-is, tried-from-is}
+use Rattle.survey.proofs.Steps.{ring-next, HitIs, TurnIs, turn-is, passesAt, alone, passing-is, turnGives, from-is, tried-from-is}
 
 -- ---- what is left of n from i on
 left : (n i : ℕ) → i < n → n - i ≡ suc (n - (i + 1))
@@ -22,10 +23,6 @@ left n i h = omega arith
 
 none-left : (n i : ℕ) → n ≤ i → n - i ≡ 0
 none-left n i h = omega arith
-
-is-true : (b : Bool) → T b → b ≡ true
-is-true true t = refl
-is-true false t = absurd t
 
 is-false : (b : Bool) → (T b → ⊥) → b ≡ false
 is-false true f = absurd (f tt)
@@ -143,17 +140,21 @@ module _ (v : View) where
   pub given-bound : (s d : ℕ) (t : Hit) → length (given v s d t) ≤ v .polygons d
   given-bound s d Missed = omega arith
   given-bound s d (At i k) =
-      omega (arith,
-      ap length (passing-is v s d i 0 (v .polygons d)),
-      length-collect (λ j. v .passes (candidate s d i j)) (λ j. candidate s d i j ∷ []) 0 (v .polygons d),
-      sum-bound (λ j. v .passes (candidate s d i j)) (λ j. 1) 1 (λ j. omega arith) 0 (v .polygons d))
+      omega (
+        arith,
+        ap length (passing-is v s d i 0 (v .polygons d)),
+        length-collect (passesAt v s d i) (alone v s d i) 0 (v .polygons d),
+        sum-bound (passesAt v s d i) (λ j. 1) 1 (λ j. omega arith) 0 (v .polygons d),
+      )
 
   pub candidates-bound : (b : ℕ) → ((d : ℕ) → v .polygons d ≤ b) → (s : ℕ) → length (candidates v s) ≤ v .decks * b
   candidates-bound b few s =
-      omega (arith,
-      ap length (from-is v s 0 (v .decks)),
-      length-collect (v .opens) (λ d. given v s d (turn v s d)) 0 (v .decks),
-      sum-bound (v .opens) (λ d. length (given v s d (turn v s d))) b (λ d. omega (arith, given-bound s d (turn v s d), few d)) 0 (v .decks))
+      omega (
+        arith,
+        ap length (from-is v s 0 (v .decks)),
+        length-collect (v .opens) (turnGives v s) 0 (v .decks),
+        sum-bound (v .opens) (λ d. length (turnGives v s d)) b (λ d. omega (arith, given-bound s d (turn v s d), few d)) 0 (v .decks),
+      )
 
   pub tried-of-bound : (s d : ℕ) → triedOf s (turn v s d) ≤ 10 * s + 1
   tried-of-bound s d = go (turn v s d) (turn-is v s d)
@@ -170,8 +171,10 @@ module _ (v : View) where
   unfolding triedBefore
   tried-before-bound zero = omega arith
   tried-before-bound (suc s) =
-      omega (arith,
-      tried-before-bound s,
-      tried-in-bound s,
-      mul-add (v .decks) (5 * s * s - 4 * s) (10 * s + 1),
-      ap (λ (n : ℕ). v .decks * n) (ring-next s))
+      omega (
+        arith,
+        tried-before-bound s,
+        tried-in-bound s,
+        mul-add (v .decks) (5 * s * s - 4 * s) (10 * s + 1),
+        ap (λ (n : ℕ). v .decks * n) (ring-next s),
+      )

@@ -1,6 +1,6 @@
 -- A seat's preference is a strict order where every distance from its wish is a number, and the scan of a list of candidates in their order
 -- ends with the one that is preferred to every other.
-use Prim.Native.Nat.{ℕ, _*_, _<_}
+use Prim.Native.Nat.{ℕ, _*_}
 use mathlib.Core.Path.{_≡_, refl, sym, _∙_, subst}
 use mathlib.Core.Logic.{_⊎_, inl, inr, ⊎-elim}
 use mathlib.Core.List.{List, [], _∷_}
@@ -8,7 +8,7 @@ use mathlib.Core.Bool.{Bool, true, false, not, cond}
 use native.Mathlib.Omega.{arith}
 use lib.Arith.{le→nltb}
 use lib.Dec.{T, T-not, not-T, ltb, ltb→lt, nltb→le}
-use lib.Ieee.{Float, nan, inf, fin, binary32, sub, lt, isNan, neg, ofBits, up, down}
+use lib.Ieee.{Float, nan, inf, fin, binary32, sub, lt, isNan, ofBits, up, down}
 use lib.Ieee.Fits.{down-pos}
 use lib.Ieee.Positive.{through}
 use Rattle.geometry.specs.declared.Height.{Height}
@@ -155,8 +155,7 @@ module _ (v : View) where
           λ x. ⊎-elim (λ q. inr (beats (bestOf v d rest) d c x (h .1 d (inl refl)) (inl (holds (better v d c) e)) q)) (h .1 x),
         )
         go false e h k =
-            let kept : Prefers v c d = inr (subst (λ (t : Bool). T (not t)) (sym e) tt, r .0 d (inl refl)) in
-            (
+            let kept : Prefers v c d = inr (subst (λ (t : Bool). T (not t)) (sym e) tt, r .0 d (inl refl)) in (
               ⊎-elim (λ q. inl q) (λ m. inr (inr m)) (k .0),
               λ x. ⊎-elim (λ q. k .1 x (inl q))
                   (⊎-elim (λ q. inr (beats (bestOf v c rest) c d x (k .1 c (inl refl)) kept q)) (λ m. k .1 x (inr m))),

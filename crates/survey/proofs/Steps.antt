@@ -15,7 +15,7 @@ use Rattle.survey.specs.declared.Hit.the-variants.{At, Missed}
 use Rattle.survey.specs.View.{View, candidate}
 use Rattle.survey.specs.Search.{orElse, polygonHit, sampleHit, triedOf, turn, passing, given, candidatesFrom, candidates, triedFrom, triedIn, triedBefore, Found, Nowhere, InStep, stepOr, firstStep}
 use Rattle.survey.specs.Record.{allOnes, recordOf, seatRecord}
-use Rattle.survey.specs.Survey.{howMany, Open, Passes, NoHitOn, NoHit, FirstHit, IsCandidate, Earlier, openDecks, overOpen, samplesBelow, TriedOn, CandidatesOn}
+use Rattle.survey.specs.Survey.{Open, Passes, NoHitOn, FirstHit, IsCandidate, Earlier, openDecks, overOpen, samplesBelow, TriedOn, CandidatesOn}
 use Rattle.survey.proofs.Members.{three, from-next, fails, holds, In, Rising, collect, of-collect, in-collect, collect-rises, sumFrom, length-collect, sum-all, sum-same, sum-equal}
 
 -- ---- the first polygon that passes, and the first sample that hits
@@ -71,11 +71,14 @@ ring-next s = omega (arith, at-most-square s)
 
 module _ (v : View) where
   -- ---- a deck's turn
+  abbrev pub passesAt : ℕ → ℕ → ℕ → ℕ → Bool
+  passesAt s d i k = v .passes (candidate s d i k)
+
   -- its first sample that hits, and the first polygon that passes there
   pub record HitIs (s d i k : ℕ) : Type 0 where
     pub first-hit : FirstHit v s d i
     pub passes : Passes v (candidate s d i k)
-    pub none-before : (j : ℕ) → j < k → T (v .passes (candidate s d i j)) → ⊥
+    pub none-before : (j : ℕ) → j < k → T (passesAt s d i j) → ⊥
 
   abbrev pub TurnIs : ℕ → ℕ → Hit → Type 0
   TurnIs s d Missed = NoHitOn v s d
@@ -83,9 +86,9 @@ module _ (v : View) where
 
   pub turn-is : (s d : ℕ) → TurnIs s d (turn v s d)
   unfolding turn
-  turn-is s d = go (turn v s d) (sample-is (λ i k. v .passes (candidate s d i k)) (v .polygons d) 0 (10 * s + 1))
+  turn-is s d = go (turn v s d) (sample-is (passesAt s d) (v .polygons d) 0 (10 * s + 1))
     where
-      go : (t : Hit) → SampleIs (λ i k. v .passes (candidate s d i k)) (v .polygons d) 0 (10 * s + 1) t → TurnIs s d t
+      go : (t : Hit) → SampleIs (passesAt s d) (v .polygons d) 0 (10 * s + 1) t → TurnIs s d t
       go Missed h = λ i l k q. h i (omega arith) (omega arith) k (q .0) (q .1)
       go (At i k) h =
           record {
@@ -106,18 +109,21 @@ module _ (v : View) where
       (three i j)
 
   -- ---- what a turn gives
-  pub passing-is : (s d i k n : ℕ) → passing v s d i k n ≡ collect (λ j. v .passes (candidate s d i j)) (λ j. candidate s d i j ∷ []) k n
+  abbrev pub alone : ℕ → ℕ → ℕ → ℕ → List Candidate
+  alone s d i k = candidate s d i k ∷ []
+
+  pub passing-is : (s d i k n : ℕ) → passing v s d i k n ≡ collect (passesAt s d i) (alone s d i) k n
   unfolding passing collect
   passing-is s d i k zero = refl
   passing-is s d i k (suc n) =
-      ap (λ (l : List Candidate). cond (v .passes (candidate s d i k)) (candidate s d i k ∷ l) l) (passing-is s d i (k + 1) n)
+      ap (λ (l : List Candidate). cond (passesAt s d i k) (candidate s d i k ∷ l) l) (passing-is s d i (k + 1) n)
 
   of-given : (s d : ℕ) (t : Hit) (c : Candidate) → TurnIs s d t → In c (given v s d t) → (c .deck ≡ d) × (Open v d → IsCandidate v s c)
   of-given s d Missed c h m = absurd m
   of-given s d (At i k) c h m =
-      go (of-collect (λ j. v .passes (candidate s d i j)) (λ j. candidate s d i j ∷ []) 0 (v .polygons d) c (subst (In c) (passing-is s d i 0 (v .polygons d)) m))
+      go (of-collect (passesAt s d i) (alone s d i) 0 (v .polygons d) c (subst (In c) (passing-is s d i 0 (v .polygons d)) m))
     where
-      go : (j : ℕ) × (0 ≤ j) × (j < 0 + v .polygons d) × T (v .passes (candidate s d i j)) × In c (candidate s d i j ∷ [])
+      go : (j : ℕ) × (0 ≤ j) × (j < 0 + v .polygons d) × T (passesAt s d i j) × In c (alone s d i j)
           → (c .deck ≡ d) × (Open v d → IsCandidate v s c)
       go (j, l, m′, t, inl e) =
           subst (λ (x : Candidate). (x .deck ≡ d) × (Open v d → IsCandidate v s x)) (sym e)
@@ -129,16 +135,16 @@ module _ (v : View) where
   in-given s d i k (At j l) h f p =
       subst (λ (j′ : ℕ). In (candidate s d i k) (passing v s d j′ 0 (v .polygons d))) (same-hit s d i j f (h .first-hit))
       (subst (In (candidate s d i k)) (sym (passing-is s d i 0 (v .polygons d)))
-      (in-collect (λ k′. v .passes (candidate s d i k′)) (λ k′. candidate s d i k′ ∷ []) 0 (v .polygons d) k (candidate s d i k) (omega arith) (omega (arith, p .0)) (p .1) (inl refl)))
+      (in-collect (passesAt s d i) (alone s d i) 0 (v .polygons d) k (candidate s d i k) (omega arith) (omega (arith, p .0)) (p .1) (inl refl)))
 
   given-rises : (s d : ℕ) (t : Hit) → Rising (Earlier v) (given v s d t)
   given-rises s d Missed = tt
   given-rises s d (At i k) =
       subst (Rising (Earlier v)) (sym (passing-is s d i 0 (v .polygons d)))
-      (collect-rises (λ j. v .passes (candidate s d i j)) (λ j. candidate s d i j ∷ []) (Earlier v) (λ j. (λ y n. absurd n, tt)) apart 0 (v .polygons d))
+      (collect-rises (passesAt s d i) (alone s d i) (Earlier v) (λ j. (λ y n. absurd n, tt)) apart 0 (v .polygons d))
     where
-      apart : (j k : ℕ) (x y : Candidate) → j < k → In x (candidate s d i j ∷ []) → In y (candidate s d i k ∷ []) → Earlier v x y
-      apart j k x y l (inl e) (inl f) = inr (ap (λ (c : Candidate). c .deck) (e) ∙ sym (ap (λ (c : Candidate). c .deck) f), omega (arith, ap (λ (c : Candidate). c .polygon) e, ap (λ (c : Candidate). c .polygon) f))
+      apart : (j k : ℕ) (x y : Candidate) → j < k → In x (alone s d i j) → In y (alone s d i k) → Earlier v x y
+      apart j k x y l (inl e) (inl f) = inr (ap (λ (c : Candidate). c .deck) e ∙ sym (ap (λ (c : Candidate). c .deck) f), omega (arith, ap (λ (c : Candidate). c .polygon) e, ap (λ (c : Candidate). c .polygon) f))
       apart j k x y l (inl e) (inr n) = absurd n
       apart j k x y l (inr n) m = absurd n
 
@@ -155,45 +161,51 @@ module _ (v : View) where
       go : (t : Hit) → TurnIs s d t → CandidatesOn v s d (length (given v s d t))
       go Missed h = inl (h, refl)
       go (At i k) h =
-          inr (i, h .first-hit,
-          ap length (passing-is s d i 0 (v .polygons d))
-          ∙ length-collect (λ j. v .passes (candidate s d i j)) (λ j. candidate s d i j ∷ []) 0 (v .polygons d)
-          ∙ sum-all (λ j. v .passes (candidate s d i j)) (λ j. 1) (v .polygons d))
+          inr (
+            i,
+            h .first-hit,
+            ap length (passing-is s d i 0 (v .polygons d))
+                ∙ length-collect (passesAt s d i) (alone s d i) 0 (v .polygons d)
+                ∙ sum-all (passesAt s d i) (λ j. 1) (v .polygons d),
+          )
 
   -- ---- the candidates of a step
-  pub from-is : (s d n : ℕ) → candidatesFrom v s d n ≡ collect (v .opens) (λ e. given v s e (turn v s e)) d n
+  abbrev pub turnGives : ℕ → ℕ → List Candidate
+  turnGives s d = given v s d (turn v s d)
+
+  pub from-is : (s d n : ℕ) → candidatesFrom v s d n ≡ collect (v .opens) (turnGives s) d n
   unfolding candidatesFrom collect
   from-is s d zero = refl
   from-is s d (suc n) =
-      ap (λ (l : List Candidate). cond (v .opens d) (given v s d (turn v s d) ++ l) l) (from-is s (d + 1) n)
+      ap (λ (l : List Candidate). cond (v .opens d) (turnGives s d ++ l) l) (from-is s (d + 1) n)
 
   pub of-candidates : (s : ℕ) (c : Candidate) → In c (candidates v s) → IsCandidate v s c
   of-candidates s c h =
-      let r = of-collect (v .opens) (λ d. given v s d (turn v s d)) 0 (v .decks) c (subst (In c) (from-is s 0 (v .decks)) h) in
+      let r = of-collect (v .opens) (turnGives s) 0 (v .decks) c (subst (In c) (from-is s 0 (v .decks)) h) in
       (of-given s (r .0) (turn v s (r .0)) c (turn-is s (r .0)) (r .4)) .1 (omega (arith, r .2), r .3)
 
   pub in-candidates : (s : ℕ) (c : Candidate) → IsCandidate v s c → In c (candidates v s)
   in-candidates s c h =
       subst (In c) (sym (from-is s 0 (v .decks)))
-      (in-collect (v .opens) (λ d. given v s d (turn v s d)) 0 (v .decks) (c .deck) c (omega arith) (omega (arith, h .on-open .0)) (h .on-open .1)
-      (subst (λ (t : ℕ). In (candidate t (c .deck) (c .sample) (c .polygon)) (given v s (c .deck) (turn v s (c .deck)))) (sym (h .of-step))
+      (in-collect (v .opens) (turnGives s) 0 (v .decks) (c .deck) c (omega arith) (omega (arith, h .on-open .0)) (h .on-open .1)
+      (subst (λ (t : ℕ). In (candidate t (c .deck) (c .sample) (c .polygon)) (turnGives s (c .deck))) (sym (h .of-step))
       (in-given s (c .deck) (c .sample) (c .polygon) (turn v s (c .deck)) (turn-is s (c .deck)) (h .first-hit)
       (subst (λ (t : ℕ). Passes v (candidate t (c .deck) (c .sample) (c .polygon))) (h .of-step) (h .passes)))))
 
   pub candidates-rise : (s : ℕ) → Rising (Earlier v) (candidates v s)
   candidates-rise s =
       subst (Rising (Earlier v)) (sym (from-is s 0 (v .decks)))
-      (collect-rises (v .opens) (λ d. given v s d (turn v s d)) (Earlier v) (λ d. given-rises s d (turn v s d)) apart 0 (v .decks))
+      (collect-rises (v .opens) (turnGives s) (Earlier v) (λ d. given-rises s d (turn v s d)) apart 0 (v .decks))
     where
-      apart : (j k : ℕ) (x y : Candidate) → j < k → In x (given v s j (turn v s j)) → In y (given v s k (turn v s k)) → Earlier v x y
+      apart : (j k : ℕ) (x y : Candidate) → j < k → In x (turnGives s j) → In y (turnGives s k) → Earlier v x y
       apart j k x y l m n =
           inl (omega (arith, (of-given s j (turn v s j) x (turn-is s j) m) .0, (of-given s k (turn v s k) y (turn-is s k) n) .0))
 
-  pub how-many : (s : ℕ) → length (candidates v s) ≡ overOpen v (λ d. length (given v s d (turn v s d)))
+  pub how-many : (s : ℕ) → length (candidates v s) ≡ overOpen v (λ d. length (turnGives s d))
   how-many s =
       ap length (from-is s 0 (v .decks))
-      ∙ length-collect (v .opens) (λ d. given v s d (turn v s d)) 0 (v .decks)
-      ∙ sum-all (v .opens) (λ d. length (given v s d (turn v s d))) (v .decks)
+      ∙ length-collect (v .opens) (turnGives s) 0 (v .decks)
+      ∙ sum-all (v .opens) (λ d. length (turnGives s d)) (v .decks)
 
   -- no candidate, no hit
   pub no-hit : (s : ℕ) → candidates v s ≡ [] → (d : ℕ) → Open v d → NoHitOn v s d

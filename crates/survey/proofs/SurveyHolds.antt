@@ -1,5 +1,5 @@
 -- The record of a seat meets the surveyor's statement.
-use Prim.Native.Nat.{ℕ, suc, _+_, _*_, _^_, _≤_, _<_}
+use Prim.Native.Nat.{ℕ, _+_, _*_, _^_, _≤_, _<_}
 use mathlib.Core.Path.{_≡_, refl, sym, ap, ap₂, _∙_, subst}
 use mathlib.Core.Logic.{_⊎_}
 use mathlib.Core.List.{List, [], _∷_}
@@ -7,12 +7,12 @@ use native.Mathlib.Omega.{arith}
 use lib.ListN.{length}
 use Rattle.survey.specs.declared.Candidate.{Candidate}
 use Rattle.survey.specs.View.{View}
-use Rattle.survey.specs.Search.{triedOf, turn, given, candidates, triedIn, triedBefore, bestOf, Found, Nowhere, InStep, firstStep}
+use Rattle.survey.specs.Search.{triedOf, turn, candidates, triedIn, triedBefore, bestOf, Found, Nowhere, InStep, firstStep}
 use Rattle.survey.specs.Record.{allOnes, unplacedRecord, placedRecord, recordOf, seatRecord}
 use Rattle.survey.specs.Survey.{NoHit, IsCandidate, Earlier, Prefers, Placed, SeatSurvey}
 use Rattle.survey.proofs.Members.{In, Rising}
 use Rattle.survey.proofs.Preference.{MeasuredHeight, IsBest, best-is}
-use Rattle.survey.proofs.Steps.{tried-is, count-is, of-candidates, in-candidates, candidates-rise, how-many, no-hit, no-candidate, tried-in-is, tried-before-is, StepIs, first-step-is}
+use Rattle.survey.proofs.Steps.{turnGives, tried-is, count-is, of-candidates, in-candidates, candidates-rise, how-many, no-hit, no-candidate, tried-in-is, tried-before-is, StepIs, first-step-is}
 
 -- a packed polygon of a deck that is there is not all ones
 not-all-ones : (d k n : ℕ) → d < 256 → k < n → n ≤ 16777215 → d * 2 ^ 24 + k ≡ allOnes → ⊥
@@ -53,7 +53,7 @@ module _ (v : View) (few-decks : v .decks ≤ 256) (few-polygons : (d : ℕ) →
           preferred = subst (λ (u : ℕ). (x : Candidate) → IsCandidate v u x → (x ≡ best) ⊎ Prefers v best x) at best-preferred;
           tried = λ d. triedOf (best .step) (turn v (best .step) d);
           tried-is = λ d o. tried-is v (best .step) d;
-          count = λ d. length (given v (best .step) d (turn v (best .step) d));
+          count = λ d. length (turnGives v (best .step) d);
           count-is = λ d o. count-is v (best .step) d;
           numbers =
               ap₂ (placedRecord v best)

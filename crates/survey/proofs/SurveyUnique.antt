@@ -1,8 +1,7 @@
 -- The surveyor's statement leaves nothing free: two records of a seat that meet it are the same.
-use Prim.Native.Nat.{ℕ, suc, _+_, _*_, _<_}
+use Prim.Native.Nat.{ℕ, suc, _+_, _*_}
 use mathlib.Core.Path.{_≡_, sym, ap, ap₂, _∙_, subst}
 use mathlib.Core.Logic.{_⊎_, inl, inr, ⊎-elim}
-use native.Mathlib.Omega.{arith}
 use native.Mathlib.Decide.{ℕ-discrete}
 use Rattle.survey.specs.declared.Candidate.{Candidate}
 use Rattle.survey.specs.View.{View, candidate}
