@@ -37,16 +37,7 @@ fn bit(byte: u8, place: usize) -> bool
     requires { ⌜ place < 8 ⌝ }
     ensures { λ r. ⌜ r ≡ bitOf byte place ⌝ }
 {
-    match place {
-        0 => byte % 2 == 1,
-        1 => byte / 2 % 2 == 1,
-        2 => byte / 4 % 2 == 1,
-        3 => byte / 8 % 2 == 1,
-        4 => byte / 16 % 2 == 1,
-        5 => byte / 32 % 2 == 1,
-        6 => byte / 64 % 2 == 1,
-        _ => byte / 128 % 2 == 1,
-    }
+    (byte >> place) % 2 == 1
 }
 
 // Whether deck d is open: the named one alone, blocked or not; otherwise those not in the blocked set.
