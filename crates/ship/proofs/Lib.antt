@@ -1,1 +1,2 @@
 pub mod FloatBits
+pub mod EndToEnd
