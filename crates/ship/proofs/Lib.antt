@@ -1,1 +1,5 @@
 pub mod FloatBits
+pub mod EndToEnd
+pub mod Asks
+pub mod ListLoops
+pub mod Places
