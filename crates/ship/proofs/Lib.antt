@@ -1,2 +1,3 @@
 pub mod FloatBits
 pub mod EndToEnd
+pub mod Passed

@@ -1,0 +1,83 @@
+-- What passing says of each question.
+use Prim.Native.Nat.{ℕ, zero, suc, _+_, _<_}
+use native.Mathlib.Omega.{arith}
+use mathlib.Core.Path.{_≡_, refl}
+use mathlib.Core.Bool.{Bool, true, false}
+use mathlib.Core.List.{List}
+use Rattle.ship.specs.declared.FileCheck.{FileCheck}
+use Rattle.ship.specs.declared.FileCheck.the-variants.{Passed, No}
+use Rattle.ship.specs.Blocks.{decksIn, blocksAt}
+use Rattle.ship.specs.Questions.{question1, question2, question3, question4, question5, question6, question7, question8, question9, question10, question11, question12, question13, ask, after, headerCheck, blocksCheck, deckCheck, decksCheck, firstNo}
+
+asked : (b : Bool) (number : ℕ) (later : FileCheck) → ask b number later ≡ Passed → (b ≡ true) × (later ≡ Passed)
+asked true number later h = (refl, h)
+asked false number later h = (cc, cc)
+
+afterwards : (first later : FileCheck) → after first later ≡ Passed → (first ≡ Passed) × (later ≡ Passed)
+afterwards Passed later h = (refl, h)
+afterwards (No number) later h = (cc, cc)
+
+-- ---- 1 to 6
+pub record HeaderYes (s : List ℕ) : Type 0 where
+  pub yes1 : question1 s ≡ true
+  pub yes2 : question2 s ≡ true
+  pub yes3 : question3 s ≡ true
+  pub yes4 : question4 s ≡ true
+  pub yes5 : question5 s ≡ true
+  pub yes6 : question6 s ≡ true
+
+pub header-yes : (s : List ℕ) → headerCheck s ≡ Passed → HeaderYes s
+unfolding headerCheck
+header-yes s h =
+    let a = asked (question1 s) 1 _ h in
+    let b = asked (question2 s) 2 _ (a .1) in
+    let c = asked (question3 s) 3 _ (b .1) in
+    let d = asked (question4 s) 4 _ (c .1) in
+    let e = asked (question5 s) 5 _ (d .1) in
+    let f = asked (question6 s) 6 Passed (e .1) in
+    record { yes1 = a .0; yes2 = b .0; yes3 = c .0; yes4 = d .0; yes5 = e .0; yes6 = f .0 }
+
+-- ---- 7 to 13
+pub record DeckYes (s : List ℕ) (d : ℕ) : Type 0 where
+  pub yes7 : question7 s d ≡ true
+  pub yes8 : question8 (blocksAt s d) ≡ true
+  pub yes9 : question9 (blocksAt s d) ≡ true
+  pub yes10 : question10 (blocksAt s d) ≡ true
+  pub yes11 : question11 s (blocksAt s d) ≡ true
+  pub yes12 : question12 s (blocksAt s d) ≡ true
+  pub yes13 : question13 s (blocksAt s d) ≡ true
+
+pub deck-yes : (s : List ℕ) (d : ℕ) → deckCheck s d ≡ Passed → DeckYes s d
+unfolding deckCheck blocksCheck
+deck-yes s d h =
+    let b = blocksAt s d in
+    let p = asked (question7 s d) 7 _ h in
+    let q = asked (question8 b) 8 _ (p .1) in
+    let r = asked (question9 b) 9 _ (q .1) in
+    let t = asked (question10 b) 10 _ (r .1) in
+    let u = asked (question11 s b) 11 _ (t .1) in
+    let v = asked (question12 s b) 12 _ (u .1) in
+    let w = asked (question13 s b) 13 Passed (v .1) in
+    record { yes7 = p .0; yes8 = q .0; yes9 = r .0; yes10 = t .0; yes11 = u .0; yes12 = v .0; yes13 = w .0 }
+
+-- ---- the file
+decks-passed : (s : List ℕ) (n d : ℕ) → decksCheck s d n ≡ Passed → (k : ℕ) → k < n → deckCheck s (d + k) ≡ Passed
+unfolding decksCheck
+decks-passed s zero d h k l = absurd (omega arith)
+decks-passed s (suc n) d h zero l =
+    let e : d + 0 ≡ d = omega arith in
+    rw e (afterwards (deckCheck s d) (decksCheck s (d + 1) n) h .0)
+decks-passed s (suc n) d h (suc k) l =
+    let e : d + suc k ≡ d + 1 + k = omega arith in
+    rw e (decks-passed s n (d + 1) (afterwards (deckCheck s d) (decksCheck s (d + 1) n) h .1) k (omega arith))
+
+module _ (s : List ℕ) (passed : firstNo s ≡ Passed) where
+  pub passed-header : headerCheck s ≡ Passed
+  unfolding firstNo
+  passed-header = afterwards (headerCheck s) (decksCheck s 0 (decksIn s)) passed .0
+
+  pub passed-deck : (d : ℕ) → d < decksIn s → deckCheck s d ≡ Passed
+  unfolding firstNo
+  passed-deck d h =
+      let e : 0 + d ≡ d = omega arith in
+      rw e at (decks-passed s (decksIn s) 0 (afterwards (headerCheck s) (decksCheck s 0 (decksIn s)) passed .1) d h)
