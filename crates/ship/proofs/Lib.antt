@@ -1,3 +1,4 @@
 pub mod FloatBits
 pub mod EndToEnd
 pub mod Passed
+pub mod Facts

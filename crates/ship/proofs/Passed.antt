@@ -4,6 +4,7 @@ use native.Mathlib.Omega.{arith}
 use mathlib.Core.Path.{_≡_, refl}
 use mathlib.Core.Bool.{Bool, true, false}
 use mathlib.Core.List.{List}
+use Rattle.ship.specs.declared.Blocks.{Blocks}
 use Rattle.ship.specs.declared.FileCheck.{FileCheck}
 use Rattle.ship.specs.declared.FileCheck.the-variants.{Passed, No}
 use Rattle.ship.specs.Blocks.{decksIn, blocksAt}
@@ -29,36 +30,39 @@ pub record HeaderYes (s : List ℕ) : Type 0 where
 pub header-yes : (s : List ℕ) → headerCheck s ≡ Passed → HeaderYes s
 unfolding headerCheck
 header-yes s h =
-    let a = asked (question1 s) 1 _ h in
-    let b = asked (question2 s) 2 _ (a .1) in
-    let c = asked (question3 s) 3 _ (b .1) in
-    let d = asked (question4 s) 4 _ (c .1) in
-    let e = asked (question5 s) 5 _ (d .1) in
-    let f = asked (question6 s) 6 Passed (e .1) in
-    record { yes1 = a .0; yes2 = b .0; yes3 = c .0; yes4 = d .0; yes5 = e .0; yes6 = f .0 }
+    let q1 = asked (question1 s) 1 _ h in
+    let q2 = asked (question2 s) 2 _ (q1 .1) in
+    let q3 = asked (question3 s) 3 _ (q2 .1) in
+    let q4 = asked (question4 s) 4 _ (q3 .1) in
+    let q5 = asked (question5 s) 5 _ (q4 .1) in
+    let q6 = asked (question6 s) 6 Passed (q5 .1) in
+    record { yes1 = q1 .0; yes2 = q2 .0; yes3 = q3 .0; yes4 = q4 .0; yes5 = q5 .0; yes6 = q6 .0 }
 
 -- ---- 7 to 13
-pub record DeckYes (s : List ℕ) (d : ℕ) : Type 0 where
-  pub yes7 : question7 s d ≡ true
-  pub yes8 : question8 (blocksAt s d) ≡ true
-  pub yes9 : question9 (blocksAt s d) ≡ true
-  pub yes10 : question10 (blocksAt s d) ≡ true
-  pub yes11 : question11 s (blocksAt s d) ≡ true
-  pub yes12 : question12 s (blocksAt s d) ≡ true
-  pub yes13 : question13 s (blocksAt s d) ≡ true
+pub record BlocksYes (s : List ℕ) (b : Blocks) : Type 0 where
+  pub yes8 : question8 b ≡ true
+  pub yes9 : question9 b ≡ true
+  pub yes10 : question10 b ≡ true
+  pub yes11 : question11 s b ≡ true
+  pub yes12 : question12 s b ≡ true
+  pub yes13 : question13 s b ≡ true
 
-pub deck-yes : (s : List ℕ) (d : ℕ) → deckCheck s d ≡ Passed → DeckYes s d
-unfolding deckCheck blocksCheck
+pub blocks-yes : (s : List ℕ) (b : Blocks) → blocksCheck s b ≡ Passed → BlocksYes s b
+unfolding blocksCheck
+blocks-yes s b h =
+    let q8 = asked (question8 b) 8 _ h in
+    let q9 = asked (question9 b) 9 _ (q8 .1) in
+    let q10 = asked (question10 b) 10 _ (q9 .1) in
+    let q11 = asked (question11 s b) 11 _ (q10 .1) in
+    let q12 = asked (question12 s b) 12 _ (q11 .1) in
+    let q13 = asked (question13 s b) 13 Passed (q12 .1) in
+    record { yes8 = q8 .0; yes9 = q9 .0; yes10 = q10 .0; yes11 = q11 .0; yes12 = q12 .0; yes13 = q13 .0 }
+
+pub deck-yes : (s : List ℕ) (d : ℕ) → deckCheck s d ≡ Passed → (question7 s d ≡ true) × BlocksYes s (blocksAt s d)
+unfolding deckCheck
 deck-yes s d h =
-    let b = blocksAt s d in
-    let p = asked (question7 s d) 7 _ h in
-    let q = asked (question8 b) 8 _ (p .1) in
-    let r = asked (question9 b) 9 _ (q .1) in
-    let t = asked (question10 b) 10 _ (r .1) in
-    let u = asked (question11 s b) 11 _ (t .1) in
-    let v = asked (question12 s b) 12 _ (u .1) in
-    let w = asked (question13 s b) 13 Passed (v .1) in
-    record { yes7 = p .0; yes8 = q .0; yes9 = r .0; yes10 = t .0; yes11 = u .0; yes12 = v .0; yes13 = w .0 }
+    let q7 = asked (question7 s d) 7 (blocksCheck s (blocksAt s d)) h in
+    (q7 .0, blocks-yes s (blocksAt s d) (q7 .1))
 
 -- ---- the file
 decks-passed : (s : List ℕ) (n d : ℕ) → decksCheck s d n ≡ Passed → (k : ℕ) → k < n → deckCheck s (d + k) ≡ Passed
