@@ -2,3 +2,4 @@ pub mod FloatBits
 pub mod EndToEnd
 pub mod Passed
 pub mod Facts
+pub mod ModelFacts
