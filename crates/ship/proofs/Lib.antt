@@ -3,3 +3,5 @@ pub mod EndToEnd
 pub mod Passed
 pub mod Facts
 pub mod ModelFacts
+pub mod RaisedSteps
+pub mod Edges

@@ -1,5 +1,5 @@
 -- What passing says of each question.
-use Prim.Native.Nat.{ℕ, zero, suc, _+_, _<_}
+use Prim.Native.Nat.{ℕ, zero, suc, _+_, _≤_, _<_}
 use native.Mathlib.Omega.{arith}
 use mathlib.Core.Path.{_≡_, refl}
 use mathlib.Core.Bool.{Bool, true, false}
@@ -38,6 +38,10 @@ header-yes s h =
     let q6 = asked (question6 s) 6 Passed (q5 .1) in
     record { yes1 = q1 .0; yes2 = q2 .0; yes3 = q3 .0; yes4 = q4 .0; yes5 = q5 .0; yes6 = q6 .0 }
 
+pub header-passed : (s : List ℕ) → HeaderYes s → headerCheck s ≡ Passed
+unfolding headerCheck
+header-passed s y = rw (y .yes1, y .yes2, y .yes3, y .yes4, y .yes5, y .yes6)
+
 -- ---- 7 to 13
 pub record BlocksYes (s : List ℕ) (b : Blocks) : Type 0 where
   pub yes8 : question8 b ≡ true
@@ -74,6 +78,11 @@ decks-passed s (suc n) d h zero l =
 decks-passed s (suc n) d h (suc k) l =
     let e : d + suc k ≡ d + 1 + k = omega arith in
     rw e (decks-passed s n (d + 1) (afterwards (deckCheck s d) (decksCheck s (d + 1) n) h .1) k (omega arith))
+
+pub all-passed : (s : List ℕ) (n d : ℕ) → ((k : ℕ) → d ≤ k → k < d + n → deckCheck s k ≡ Passed) → decksCheck s d n ≡ Passed
+unfolding decksCheck
+all-passed s zero d h = refl
+all-passed s (suc n) d h = rw (h d (omega arith) (omega arith)) (all-passed s n (d + 1) (λ k a b. h k (omega arith) (omega arith)))
 
 module _ (s : List ℕ) (passed : firstNo s ≡ Passed) where
   pub passed-header : headerCheck s ≡ Passed
