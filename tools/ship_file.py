@@ -1,0 +1,51 @@
+"""Ship files, seat lists and blocked sets as bytes (document 01, sections 2, 5 and 7), for the scripts beside this one."""
+import struct
+
+ALL_ONES = 0xFFFFFFFF
+
+
+def deck_blocks(deck):
+    """The blocks V, N, P, C, H of a deck: offset (x, y), vertices [(x, y, [neighbours])], polygons [[vertices]], heights []."""
+    v = struct.pack("<ff", *deck["offset"])
+    n = p = c = b""
+    start = 0
+    for x, y, neighbours in deck["vertices"]:
+        v += struct.pack("<ffII", x, y, start, len(neighbours))
+        n += struct.pack("<%dI" % len(neighbours), *neighbours)
+        start += len(neighbours)
+    start = 0
+    for polygon in deck["polygons"]:
+        p += struct.pack("<II", start, len(polygon))
+        c += struct.pack("<%dI" % len(polygon), *polygon)
+        start += len(polygon)
+    return [v, n, p, c, struct.pack("<%df" % len(deck["heights"]), *deck["heights"])]
+
+
+def ship_file(decks, reach, steps):
+    head = struct.pack("<IfI", len(decks), reach, steps)
+    blocks = [b for deck in decks for b in deck_blocks(deck)]
+    at = 12 + 8 * len(blocks)
+    for b in blocks:
+        head += struct.pack("<II", at, len(b))
+        at += len(b)
+    return head + b"".join(blocks)
+
+
+def seat(x, y, deck=ALL_ONES, wish=None):
+    return struct.pack("<ffII", x, y, deck, 0 if wish is None else 1) + struct.pack("<f", 0.0 if wish is None else wish)
+
+
+def blocked(decks=()):
+    return bytes(sum(1 << d % 8 for d in decks if d // 8 == byte) for byte in range(32))
+
+
+SQUARE = {
+    "offset": (0.0, 0.0),
+    "vertices": [(x, y, [0, ALL_ONES]) for x, y in ((0.0, 0.0), (4.0, 0.0), (4.0, 4.0), (0.0, 4.0))],
+    "polygons": [[0, 1, 2, 3]],
+    "heights": [1.0, 1.0, 3.0, 3.0],
+}
+
+# the example of document 01, section 7
+EXAMPLE_SHIP = ship_file([SQUARE], 0.5, 2)
+EXAMPLE_SEATS = seat(1.0, 1.0) + seat(5.0, 5.0) + seat(-0.5, 2.0)
