@@ -146,6 +146,7 @@ module _ (s : List ℕ) (d : ℕ) {v n p c h : Run}
       }
 
 pub ruleset pairs = (first-fits, pair-fits, first-there, pair-there, v-short, v-ragged, n-ragged, p-ragged, c-ragged, by-h)
+
 pub ruleset deck-places = (first-fits, pair-fits, first-there, pair-there, offset-there, made-at, made-inside)
 
 -- ---- the tables in a deck's blocks
