@@ -2,7 +2,7 @@
 use Prim.Native.Nat.{ℕ, zero, suc, _+_, _*_, _-_, _≤_, _<_}
 use mathlib.Core.Path.{_≡_, refl, ap, _∙_, subst}
 use mathlib.Core.List.{List, [], _∷_, _++_}
-use mathlib.Core.Bool.{Bool, true, false, cond}
+use mathlib.Core.Bool.{Bool, true, false}
 use native.Mathlib.Omega.{arith}
 use native.Mathlib.Numerals.{add-one}
 use native.Mathlib.Nat.{sub-zero, mul-add}
@@ -13,7 +13,7 @@ use Rattle.survey.specs.declared.Candidate.{Candidate}
 use Rattle.survey.specs.declared.Hit.{Hit}
 use Rattle.survey.specs.declared.Hit.the-variants.{At, Missed}
 use Rattle.survey.specs.View.{View, candidate}
-use Rattle.survey.specs.Search.{polygonHit, sampleHit, triedOf, turn, passing, given, candidatesFrom, candidates, triedFrom, triedIn, triedBefore, better, bestOf, Nowhere, InStep, firstStep}
+use Rattle.survey.specs.Search.{polygonHit, sampleHit, triedOf, turn, passing, given, candidatesFrom, candidates, triedFrom, triedIn, triedBefore, bestOf, Nowhere, InStep, firstStep}
 use Rattle.survey.proofs.Members.{length-collect, sum-bound}
 use Rattle.survey.proofs.Steps.{ring-next, HitIs, TurnIs, turn-is, passesAt, alone, passing-is, turnGives, from-is, tried-from-is}
 
@@ -110,7 +110,7 @@ module _ (v : View) where
   pub best-append : (c : Candidate) (l m : List Candidate) → bestOf v c (l ++ m) ≡ bestOf v (bestOf v c l) m
   unfolding bestOf
   best-append c [] m = refl
-  best-append c (d ∷ l) m = best-append (cond (better v d c) d c) l m
+  best-append c (d ∷ l) m = best-append _ l m
 
   -- ---- a hit: no polygon before its own passes at its sample, so that the scan for candidates may begin there
   module _ (s d i k : ℕ) (e : turn v s d ≡ At i k) where

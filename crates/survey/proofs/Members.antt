@@ -23,12 +23,12 @@ three j i = go (decLe j i)
 pub from-next : (P : ℕ → Type 0) (a k : ℕ) → P a → a ≤ k → (a + 1 ≤ k → P k) → P k
 from-next P a k h l later = ⊎-elim (λ q. subst P q h) (λ q. later (omega arith)) (eq-or-lt-of-le l)
 
--- a test that fails at a
-pub fails : (p : ℕ → Bool) (a : ℕ) → p a ≡ false → T (p a) → ⊥
-fails p a e t = subst T e t
-
+-- ---- tests
 pub holds : (b : Bool) → b ≡ true → T b
 holds b e = subst T (sym e) tt
+
+pub not-holds : (b : Bool) → b ≡ false → T b → ⊥
+not-holds b e t = subst T e t
 
 -- ---- membership and order
 module _ {A : Type 0} where
@@ -88,7 +88,7 @@ module _ {A : Type 0} where
         go : (b : Bool) → p a ≡ b → (a ≡ k) ⊎ (a < k) → (a < k → In x (collect p f (a + 1) n)) → In x (cond b (f a ++ collect p f (a + 1) n) (collect p f (a + 1) n))
         go true e (inl q) later = in-left x (f a) (collect p f (a + 1) n) (subst (λ (j : ℕ). In x (f j)) (sym q) m)
         go true e (inr q) later = in-right x (f a) (collect p f (a + 1) n) (later q)
-        go false e (inl q) later = absurd (fails p a e (subst (λ (j : ℕ). T (p j)) (sym q) t))
+        go false e (inl q) later = absurd (not-holds (p a) e (subst (λ (j : ℕ). T (p j)) (sym q) t))
         go false e (inr q) later = later q
 
     pub collect-rises : (R : A → A → Type 0) → ((k : ℕ) → Rising R (f k)) → ((j k : ℕ) (x y : A) → j < k → In x (f j) → In y (f k) → R x y)

@@ -22,7 +22,7 @@ use Rattle.survey.specs.Wishes.{gapOf, nearer}
 use Rattle.survey.specs.View.{View}
 use Rattle.survey.specs.Search.{better, bestOf}
 use Rattle.survey.specs.Survey.{Earlier, Nearer, Prefers}
-use Rattle.survey.proofs.Members.{In, Rising, holds}
+use Rattle.survey.proofs.Members.{In, Rising, holds, not-holds}
 
 -- the distance from a wish to a height is a number
 abbrev pub MeasuredFrom : Wish → Height → Type 0
@@ -77,7 +77,7 @@ nearer-asym (Wished w) (Known a) None p q = q
 nearer-asym (Wished w) (Known a) (Known b) p q =
     let x = sub binary32 a w in
     let y = sub binary32 b w in
-    magnitude-asym x y (subst T (gaps x y) p) (subst T (gaps y x) q)
+    magnitude-asym x y (rw (gaps x y) at p) (rw (gaps y x) at q)
 
 nearer-weak : (w : Wish) (a b c : Height) → MeasuredFrom w b → T (not (nearer w a b)) → T (not (nearer w b c)) → T (not (nearer w a c))
 unfolding nearer
@@ -90,10 +90,7 @@ nearer-weak (Wished w) (Known a) (Known b) (Known c) h p q =
     let x = sub binary32 a w in
     let y = sub binary32 b w in
     let z = sub binary32 c w in
-    subst T-not-of (sym (gaps x z)) (magnitude-weak x y z h (subst T-not-of (gaps x y) p) (subst T-not-of (gaps y z) q))
-  where
-    T-not-of : Bool → Type 0
-    T-not-of t = T (not t)
+    rw (gaps x z) (magnitude-weak x y z h (rw (gaps x y) at p) (rw (gaps y z) at q))
 
 module _ (v : View) where
   earlier-trans : (a b c : Candidate) → Earlier v a b → Earlier v b c → Earlier v a c
@@ -122,7 +119,7 @@ module _ (v : View) where
         go : (t : Bool) → Nearer v a c ≡ t → Prefers v a c
         go true e = inl (holds (Nearer v a c) e)
         go false e =
-            let n : T (not (Nearer v a c)) = subst (λ (t : Bool). T (not t)) (sym e) tt in
+            let n = not-T (Nearer v a c) (not-holds (Nearer v a c) e) in
             let ba = not-farther a b p in
             let cb = not-farther b c q in
             inr (weak c b a cb ba, earlier-trans a b c (earlier a b (weak a c b n cb) p) (earlier b c (weak b a c ba n) q))
@@ -155,7 +152,7 @@ module _ (v : View) where
           λ x. ⊎-elim (λ q. inr (beats (bestOf v d rest) d c x (h .1 d (inl refl)) (inl (holds (better v d c) e)) q)) (h .1 x),
         )
         go false e h k =
-            let kept : Prefers v c d = inr (subst (λ (t : Bool). T (not t)) (sym e) tt, r .0 d (inl refl)) in (
+            let kept : Prefers v c d = inr (not-T (better v d c) (not-holds (better v d c) e), r .0 d (inl refl)) in (
               ⊎-elim (λ q. inl q) (λ m. inr (inr m)) (k .0),
               λ x. ⊎-elim (λ q. k .1 x (inl q))
                   (⊎-elim (λ q. inr (beats (bestOf v c rest) c d x (k .1 c (inl refl)) kept q)) (λ m. k .1 x (inr m))),

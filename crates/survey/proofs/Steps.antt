@@ -16,7 +16,7 @@ use Rattle.survey.specs.View.{View, candidate}
 use Rattle.survey.specs.Search.{orElse, polygonHit, sampleHit, triedOf, turn, passing, given, candidatesFrom, candidates, triedFrom, triedIn, triedBefore, Found, Nowhere, InStep, stepOr, firstStep}
 use Rattle.survey.specs.Record.{allOnes, recordOf, seatRecord}
 use Rattle.survey.specs.Survey.{Open, Passes, NoHitOn, FirstHit, IsCandidate, Earlier, openDecks, overOpen, samplesBelow, TriedOn, CandidatesOn}
-use Rattle.survey.proofs.Members.{three, from-next, fails, holds, In, Rising, collect, of-collect, in-collect, collect-rises, sumFrom, length-collect, sum-all, sum-same, sum-equal}
+use Rattle.survey.proofs.Members.{three, from-next, holds, not-holds, In, Rising, collect, of-collect, in-collect, collect-rises, sumFrom, length-collect, sum-all, sum-same, sum-equal}
 
 -- ---- the first polygon that passes, and the first sample that hits
 module _ (passes : ℕ → ℕ → Bool) where
@@ -30,7 +30,7 @@ module _ (passes : ℕ → ℕ → Bool) where
   polygon-is i k (suc n) = go (passes i k) refl (polygonHit passes i (k + 1) n) (polygon-is i (k + 1) n)
     where
       next : passes i k ≡ false → (j : ℕ) → k ≤ j → (k + 1 ≤ j → T (passes i j) → ⊥) → T (passes i j) → ⊥
-      next e j = from-next (λ j′. T (passes i j′) → ⊥) k j (fails (passes i) k e)
+      next e j = from-next (λ j′. T (passes i j′) → ⊥) k j (not-holds (passes i k) e)
 
       go : (b : Bool) → passes i k ≡ b → (r : Hit) → PolygonIs i (k + 1) n r → PolygonIs i k (suc n) (cond b (At i k) r)
       go true e r h = (refl, omega arith, omega arith, holds (passes i k) e, λ j l m. absurd (omega arith))
