@@ -1,19 +1,18 @@
 -- What the questions that passed show of the places of things: each lies inside the file.
-use Prim.Native.Nat.{ℕ, _+_, _-_, _*_, _/_, _%_, _^_, _≤_, _<_}
+use Prim.Native.Nat.{ℕ, _+_, _-_, _*_, _/_, _%_, _≤_, _<_}
 use native.Mathlib.Omega.{arith}
-use mathlib.Core.Path.{_≡_, refl, sym, ap, _∙_}
-use mathlib.Core.Bool.{Bool, true, false, _&&_, and-false}
+use mathlib.Core.Path.{_≡_, refl, sym, _∙_}
+use mathlib.Core.Bool.{Bool, true, false, _&&_}
 use mathlib.Core.List.{List}
 use lib.Dec.{T, eqb, leb, leb→le}
 use lib.ListN.{length}
 use mir.Syntax.{w64}
 use mir.Val.{Fits}
-use borrow.Author.Tests.{leb-true, eqb-true, le-leb, lt-leb, eq-eqb, ne-eqb}
-use Rattle.words.specs.Bytes.{u32At}
+use borrow.Author.Tests.{leb-true, le-leb, lt-leb, eq-eqb, ne-eqb}
 use Rattle.ship.specs.declared.Blocks.{Blocks}
 use Rattle.ship.specs.declared.Run.{Run}
 use Rattle.ship.specs.declared.FileCheck.{FileCheck}
-use Rattle.ship.specs.declared.FileCheck.the-variants.{Passed, No}
+use Rattle.ship.specs.declared.FileCheck.the-variants.{Passed}
 use Rattle.ship.specs.Blocks.{decksIn, runAt, blockAt, blockOf, blocksAt, RowsInside, BlocksInside}
 use Rattle.ship.specs.Questions.{endToEnd, question1, question2, question3, question4, question5, question6, question7, headerCheck, ask}
 use Rattle.ship.proofs.EndToEnd.{both, chain-inside}
@@ -41,7 +40,7 @@ header-passed s h =
       chain = asked (question6 s) 6 Passed (a5 .1) .0;
     }
 
--- the table of blocks, before question 6 and after the header's answer
+-- the rows of the table of blocks
 pub table-rows : {s : List ℕ} (decks : ℕ) → 12 + 40 * decks ≤ length s → RowsInside s 12 8 8 (5 * decks)
 table-rows decks h = record { row = λ i l. omega arith }
 
@@ -134,7 +133,7 @@ module _ (s : List ℕ) (d : ℕ) {v n p c h : Run}
   unfolding blocksAt
   made-at = simp (first-block s d hv, hn, hp, hc, hh)
 
-  -- what `blocks_at` requires is one premise: its parts lie too deep for a search among five calls
+  -- One premise for all that `blocks_at` requires: a search among its five calls does not reach the parts.
   pub made-inside : (headerCheck s ≡ Passed) × ((d < decksIn s) × (question7 s d ≡ true)) → BlocksInside s made
   made-inside q =
       record {
