@@ -20,7 +20,7 @@ use Rattle.ship.specs.Decode.{entries, deckAt, decode}
 use Rattle.ship.specs.Floats.{inSize}
 use Rattle.ship.specs.Questions.{question7, headerCheck, firstNo, DeckOfPassed}
 use Rattle.ship.proofs.FloatBits.{in-size-not-nan}
-use Rattle.ship.proofs.Passed.{deck-yes, passed-header, passed-deck}
+use Rattle.ship.proofs.Passed.{deck-all-yes, passed-header, passed-deck}
 use Rattle.ship.proofs.Facts.{sound, decks-range, reach-number, steps-range}
 use Rattle.ship.proofs.ModelFacts.{point-of, neighbours-of, corners-of, height-of, corners-range}
 
@@ -51,7 +51,7 @@ pub ruleset header = (some-deck, few-decks, reach-number, reach-is, steps-are, s
 -- ---- where a deck lies
 module _ (s : List ℕ) {d : ℕ} (passed : firstNo s ≡ Passed) (there : d < decksIn s) where
   pub whole-rows : question7 s d ≡ true
-  whole-rows = deck-yes s d (passed-deck s passed d there) .0
+  whole-rows = deck-all-yes s d (passed-deck s passed d there) .0
 
   pub deck-of-passed : {b : Blocks} → b ≡ blocksAt s d → DeckOfPassed s b
   deck-of-passed e = record { number = d; there = there; is = e; passed = passed }
