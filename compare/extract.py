@@ -5,6 +5,7 @@ SOURCES is the folder with polyanya's src/ (commit a297e0476c, see NOTICE), OUT 
 own but for these changes, all made here:
 - `angle.sin_cos()` becomes a look-up in the table of directions (document 01, section 4), since `sin_cos` has no bit-exact definition;
 - the R-tree is left out: decks are unbaked, so `baked_polygons` is an empty option and the branch that reads it is never taken;
+- the vector library, which is not among the files, is compare/src/glam.rs;
 - derives, features and functions that the comparison does not run are left out.
 """
 import os
@@ -43,8 +44,8 @@ def write(name, text):
 
 os.makedirs(out, exist_ok=True)
 
-write("helpers.rs", read("helpers.rs"))
-write("primitives.rs", read("primitives.rs"))
+write("helpers.rs", read("helpers.rs").replace("use glam::", "use crate::glam::"))
+write("primitives.rs", read("primitives.rs").replace("use glam::", "use crate::glam::"))
 
 instance = read("instance.rs")
 write(
@@ -64,7 +65,7 @@ inner = replaced(
 )
 write(
     "layers.rs",
-    "use glam::{vec2, Vec2};\nuse crate::{helpers::Vec2Helper, instance::EdgeSide, MeshError, Polygon, Vertex};\n"
+    "use crate::glam::{vec2, Vec2};\nuse crate::{helpers::Vec2Helper, instance::EdgeSide, MeshError, Polygon, Vertex};\n"
     "#[derive(Debug, Clone)]\n"
     + re.sub(r"    #\[cfg\(feature = \"detailed-layers\"\)\]\n    #\[cfg_attr[^\n]*\n    pub scale: Vec2,\n", "", layer)
     + "impl Layer {\n"
@@ -87,13 +88,14 @@ mesh = re.sub(r"    #\[cfg\(feature = \"stats\"\)\]\n    #\[cfg_attr[^\n]*\n    
 coords = item(lib, "impl Coords {")
 write(
     "mesh.rs",
-    "use std::collections::HashSet;\nuse glam::Vec2;\nuse crate::{helpers::Vec2Helper, instance::U32Layer, layers::Layer};\n"
+    "use std::collections::HashSet;\nuse crate::glam::Vec2;\nuse crate::{helpers::Vec2Helper, instance::U32Layer, layers::Layer};\n"
     + "#[derive(Debug, PartialEq, Clone, Copy)]\n"
     + item(lib, "pub struct Coords {")
     + item(lib, "impl From<Vec2> for Coords {")
     + "impl Coords {\n"
     + item(coords, "pub fn on_layer(")
     + item(coords, "pub fn position(")
+    + item(coords, "pub fn layer(")
     + item(coords, "pub fn polygon(")
     + item(coords, "pub fn height(")
     + "}\n#[derive(Debug, Clone)]\n"

@@ -19,7 +19,7 @@ use Rattle.ship.specs.Blocks.{decksIn, runAt, blocksAt, vertexPlace, nei
 use Rattle.ship.specs.Model.{withSteps}
 use Rattle.ship.specs.Decode.{pointAt, entries, vertexAt, polygonAt, deckAt, decode, withStepsBytes}
 use Rattle.ship.specs.Questions.{endToEnd, everyCount, question1, question2, question3, question4, question5, question6, question7, question11, question12, question13, headerCheck, blocksCheck, deckCheck, decksCheck, firstNo}
-use Rattle.ship.proofs.Passed.{HeaderYes, header-yes, header-passed, all-passed, passed-header, passed-deck}
+use Rattle.ship.proofs.Passed.{HeaderYes, header-all-yes, all-yes-header, all-yes-decks, passed-header, passed-deck}
 use Rattle.ship.proofs.Facts.{BlocksPast, blocks-past, at-least-12}
 
 -- ---- two files that differ at most in the step number
@@ -134,8 +134,8 @@ module _ (s : List ℕ) (n : ℕ) (passed : firstNo s ≡ Passed) where
   unfolding question1 question2 question3 question4 question5 question6
   raised-header low high =
       let a = alike in
-      let y = header-yes s (passed-header s passed) in
-      header-passed (withStepsBytes s n) record {
+      let y = header-all-yes s (passed-header s passed) in
+      all-yes-header (withStepsBytes s n) record {
         yes1 = rw (a .long) (y .yes1);
         yes2 = rw (a .decks) (y .yes2);
         yes3 = rw (a .reach) (y .yes3);
@@ -152,7 +152,7 @@ module _ (s : List ℕ) (n : ℕ) (passed : firstNo s ≡ Passed) where
   unfolding firstNo
   raised-passes low high =
       let e = alike .decks in
-      rw (raised-header low high) (all-passed (withStepsBytes s n) (decksIn (withStepsBytes s n)) 0 (λ d a b. raised-deck d (omega arith)))
+      rw (raised-header low high) (all-yes-decks (withStepsBytes s n) (decksIn (withStepsBytes s n)) 0 (λ d a b. raised-deck d (omega arith)))
 
   raised-ship : decode (withStepsBytes s n) ≡ withSteps (decode s) n
   unfolding decode
