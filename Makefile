@@ -1,3 +1,16 @@
-.PHONY: test
+.PHONY: demo test compare bench
+
+demo:
+	@command -v rt >/dev/null || { echo "make: 'rt', the Rattle kit, is not on the PATH (README.md names its identity)" >&2; exit 2; }
+	@rt check seatlist > target-demo.log 2>&1 || { cat target-demo.log; rm -f target-demo.log; exit 1; }
+	@rm -f target-demo.log
+	@target/bin/seatlist < crates/seatlist/stdin
+
 test:
 	bash .ci/run
+
+compare:
+	compare/run check
+
+bench:
+	compare/run bench
