@@ -1,5 +1,5 @@
 -- What a deck of a passed file is known to be: its blocks lie inside the file, past the header, and its rows are what questions 8 to 13 ask.
-use Prim.Native.Nat.{ℕ, _+_, _-_, _*_, _/_, _%_, _≤_, _<_}
+use Prim.Native.Nat.{ℕ, _+_, _-_, _*_, _≤_, _<_}
 use native.Mathlib.Omega.{arith}
 use mathlib.Core.Path.{_≡_, refl, sym, subst, subst⁻¹}
 use mathlib.Core.Bool.{Bool, true, false, not, _&&_, _||_}
@@ -16,9 +16,9 @@ use Rattle.ship.specs.declared.Blocks.{Blocks}
 use Rattle.ship.specs.declared.Run.{Run}
 use Rattle.ship.specs.declared.FileCheck.the-variants.{Passed}
 use Rattle.ship.specs.Floats.{inSize, reachAllowed}
-use Rattle.ship.specs.Blocks.{decksIn, reachIn, stepsIn, blockAt, blockOf, blocksAt, vertexPlace, neighbourRun, polygonRun, cornerEntry, BlocksInside}
-use Rattle.ship.specs.Questions.{question1, question2, question3, question4, question5, question6, question7, question8, question9, question10, question11, question12, question13, endToEnd, everyFloat, everyCount, headerCheck, firstNo, DeckOfPassed}
-use Rattle.ship.proofs.FloatBits.{size-within, in-size-not-nan, reach-within, reach-not-nan}
+use Rattle.ship.specs.Blocks.{decksIn, reachIn, stepsIn, blockOf, blocksAt, vertexPlace, neighbourRun, polygonRun, cornerEntry, BlocksInside}
+use Rattle.ship.specs.Questions.{question1, question2, question3, question4, question7, question8, question9, question10, question11, question12, question13, endToEnd, everyFloat, everyCount, headerCheck, firstNo, DeckOfPassed}
+use Rattle.ship.proofs.FloatBits.{reach-within, reach-not-nan}
 use Rattle.ship.proofs.EndToEnd.{both, chain-inside}
 use Rattle.ship.proofs.Places.{block-placed, made-at, made-inside}
 use Rattle.ship.proofs.Passed.{HeaderYes, header-all-yes, BlocksYes, deck-all-yes, passed-header, passed-deck}
