@@ -1,0 +1,3 @@
+pub mod SeatFacts
+pub mod RecordsBack
+pub mod SurveyTheorem
