@@ -4,11 +4,10 @@ use native.Mathlib.Omega.{arith}
 use native.Mathlib.Nat.{add-assoc}
 use mathlib.Core.Path.{_≡_, refl, sym, ap, _∙_}
 use mathlib.Core.List.{List, [], _∷_, _++_, append-assoc}
-use lib.ListN.{length, getD, take, drop, length-append, length-drop}
+use lib.ListN.{length, getD, drop}
 use lib.Seq.{take-at, drop-append-add, getD-take, getD-drop, ext-getD}
 use Rattle.words.specs.Bytes.{u32At, bytes4, joined}
 use Rattle.words.specs.Rows.{rows}
-use Rattle.words.proofs.Splice.{u32At-same}
 use Rattle.words.proofs.Writing.{length-bytes4, length-joined}
 use Rattle.words.proofs.TableRows.{length-rows, getD-rows, map-rows}
 use Rattle.ship.specs.declared.FileCheck.the-variants.{Passed}

@@ -22,7 +22,7 @@ use Rattle.ship.specs.declared.FileCheck.the-variants.{Passed, No}
 use Rattle.ship.specs.declared.Blocks.{Blocks}
 use Rattle.ship.specs.Blocks.{decksIn, blocksAt}
 use Rattle.ship.specs.Floats.{inSize}
-use Rattle.ship.specs.Model.{Deck, Ship, noDeck, deckOf, polygonCorners}
+use Rattle.ship.specs.Model.{noDeck, deckOf, polygonCorners}
 use Rattle.ship.specs.Decode.{deckAt, decode}
 use Rattle.ship.specs.Questions.{ask, after, firstNo, DeckOfPassed}
 use Rattle.ship.proofs.FloatBits.{size-within, in-size-not-nan}
@@ -33,8 +33,8 @@ use Rattle.survey.specs.declared.Wish.{Wish}
 use Rattle.survey.specs.declared.Wish.the-variants.{NoWish, Wished}
 use Rattle.survey.specs.Wishes.{gapOf}
 use Rattle.survey.specs.Record.{SeatRecord, seatRecord}
-use Rattle.survey.specs.Survey.{IsCandidate, SeatSurvey}
-use Rattle.survey.proofs.Preference.{MeasuredFrom, MeasuredHeight, MeasuredBelow}
+use Rattle.survey.specs.Survey.{SeatSurvey}
+use Rattle.survey.proofs.Preference.{MeasuredFrom, MeasuredBelow}
 use Rattle.survey.proofs.SurveyHolds.{survey-holds}
 use Rattle.survey.proofs.SurveyUnique.{survey-unique}
 use Rattle.search.specs.OnDeck.{heightWith, heightOn}

@@ -2,8 +2,8 @@
 use Prim.Native.Nat.{ℕ, zero, suc, _+_, _*_, _≤_, _<_}
 use native.Mathlib.Omega.{arith}
 use mathlib.Core.Path.{_≡_, refl, sym, ap, ap₂, _∙_}
-use mathlib.Core.List.{List, [], _∷_, _++_}
-use lib.Dec.{leb}
+use mathlib.Core.Bool.{true}
+use mathlib.Core.List.{List, [], _∷_}
 use lib.ListN.{length, drop, length-append, length-drop}
 use borrow.Author.Tests.{leb-true, le-leb}
 use Rattle.words.specs.Rows.{rows}
@@ -16,17 +16,16 @@ use Rattle.ship.specs.Questions.{firstNo}
 use Rattle.ship.proofs.Facts.{steps-range}
 use Rattle.ship.proofs.ModelFacts.{decks-length}
 use Rattle.ship.proofs.RaisedSteps.{raised}
-use Rattle.survey.specs.Record.{SeatRecord, allOnes, seatRecord}
+use Rattle.survey.specs.Record.{SeatRecord, seatRecord}
 use Rattle.survey.specs.Survey.{SeatSurvey}
 use Rattle.survey.proofs.Steps.{steady}
 use Rattle.placing.specs.declared.Seat.{Seat}
 use Rattle.placing.specs.Sees.{sampleOn, placeOf, view}
-use Rattle.calls.specs.declared.Answer.the-variants.{Refused, Wrote}
 use Rattle.calls.specs.Answers.{question20, answerOf}
-use Rattle.seats.specs.SeatFile.{seatAt, seatCount, seatsOf, seatsCheck}
-use Rattle.seats.specs.Run.{runCheck, runAnswer, seatRun, recordBytes, recordsBytes, runOutput}
+use Rattle.seats.specs.SeatFile.{seatAt, seatCount, seatsOf, question16Seat, seatsCheck}
+use Rattle.seats.specs.Run.{runCheck, runAnswer, seatRun, recordBytes, runOutput}
 use Rattle.seats.specs.Survey.{Each, Survey, recordAt, recordsIn, recordSlice, Kept, Surveyed}
-use Rattle.seats.proofs.SeatFacts.{RunPassed, run-yes, run-passed, SeatYes, seat-checked, seat-floats, wish-within, seat-surveyed, seat-once}
+use Rattle.seats.proofs.SeatFacts.{RunPassed, run-yes, run-passed, seat-checked, seat-floats, wish-within, seat-surveyed, seat-once}
 use Rattle.seats.proofs.RecordsBack.{records-length, slice-written, record-written, records-written, recordOfSeat, run-rows, run-length, run-at, output-passed, answer-passed}
 
 -- ---- two lists, element by element
@@ -48,30 +47,30 @@ module _ {A B : Type 0} (R : A → B → Type 0) (f : ℕ → A) where
       ap₂ _∷_ (h i (omega arith) (omega arith) x y (p .0) (q .0)) (each-once n (i + 1) (λ j a b. h j (omega arith) (omega arith)) l m (p .1) (q .1))
 
 -- ---- the survey of a list of seats
+abbrev Meets : Ship → List ℕ → Seat → SeatRecord → Type 0
+Meets ship blocked seat r = SeatSurvey (view ship blocked seat) (ship .steps) r
+
 module _ (file blocked seats : List ℕ) (passed : firstNo file ≡ Passed) (checked : seatsCheck seats (decksIn file) 0 (seatCount seats) ≡ Passed) where
-  abbrev Surveys : Seat → SeatRecord → Type 0
-  Surveys seat r = SeatSurvey (view (decode file) blocked seat) (decode file .steps) r
-
   module _ (i : ℕ) (h : i < seatCount seats) where
-    yes : SeatYes seats (decksIn file) i
-    yes = seat-checked seats (decksIn file) (seatCount seats) checked i h
+    yes16 : question16Seat seats i ≡ true
+    yes16 = seat-checked seats (decksIn file) (seatCount seats) checked i h .yes16
 
-    listed-surveyed : Surveys (seatAt seats i) (recordOfSeat (decode file) blocked seats i)
-    listed-surveyed = seat-surveyed file passed blocked (seatAt seats i) (seat-floats seats i (yes .yes16) .at-within) (wish-within seats i (yes .yes16))
+    listed-meets : Meets (decode file) blocked (seatAt seats i) (recordOfSeat (decode file) blocked seats i)
+    listed-meets = seat-surveyed file passed blocked (seatAt seats i) (seat-floats seats i yes16 .at-within) (wish-within seats i yes16)
 
-    listed-once : (r r′ : SeatRecord) → Surveys (seatAt seats i) r → Surveys (seatAt seats i) r′ → r ≡ r′
-    listed-once = seat-once file passed blocked (seatAt seats i) (seat-floats seats i (yes .yes16) .at-within) (wish-within seats i (yes .yes16))
+    listed-once : (r r′ : SeatRecord) → Meets (decode file) blocked (seatAt seats i) r → Meets (decode file) blocked (seatAt seats i) r′ → r ≡ r′
+    listed-once = seat-once file passed blocked (seatAt seats i) (seat-floats seats i yes16 .at-within) (wish-within seats i yes16)
 
   survey-run : Survey (decode file) blocked (seatsOf seats) (rows (recordOfSeat (decode file) blocked seats) 0 (seatCount seats))
-  survey-run = each-rows Surveys (seatAt seats) (recordOfSeat (decode file) blocked seats) (seatCount seats) 0 (λ j a b. listed-surveyed j (omega arith))
-
-  survey-once : (records records′ : List SeatRecord) → Survey (decode file) blocked (seatsOf seats) records → Survey (decode file) blocked (seatsOf seats) records′ → records ≡ records′
-  survey-once = each-once Surveys (seatAt seats) (seatCount seats) 0 (λ j a b. listed-once j (omega arith))
+  survey-run =
+      each-rows (Meets (decode file) blocked) (seatAt seats) (recordOfSeat (decode file) blocked seats) (seatCount seats) 0 (λ j a b. listed-meets j (omega arith))
 
 -- nothing in the statement is free
-pub survey-lists-equal : (file blocked seats : List ℕ) (records records′ : List SeatRecord) → firstNo file ≡ Passed → seatsCheck seats (decksIn file) 0 (seatCount seats) ≡ Passed
+pub survey-lists-equal : (file blocked seats : List ℕ) (records records′ : List SeatRecord) → firstNo file ≡ Passed
+    → seatsCheck seats (decksIn file) 0 (seatCount seats) ≡ Passed
     → Survey (decode file) blocked (seatsOf seats) records → Survey (decode file) blocked (seatsOf seats) records′ → records ≡ records′
-survey-lists-equal file blocked seats records records′ passed checked = survey-once file blocked seats passed checked records records′
+survey-lists-equal file blocked seats records records′ passed checked =
+    each-once (Meets (decode file) blocked) (seatAt seats) (seatCount seats) 0 (λ j a b. listed-once file blocked seats passed checked j (omega arith)) records records′
 
 -- ---- the output of a run that is not refused
 module _ (file blocked seats out : List ℕ) (passed : runCheck file blocked seats (length out) ≡ Passed) where
