@@ -11,22 +11,23 @@ use Rattle.survey.specs.Search.{triedOf, turn, candidates, triedIn, trie
 use Rattle.survey.specs.Record.{allOnes, unplacedRecord, placedRecord, recordOf, seatRecord}
 use Rattle.survey.specs.Survey.{NoHit, IsCandidate, Earlier, Prefers, Placed, SeatSurvey}
 use Rattle.survey.proofs.Members.{In, Rising}
-use Rattle.survey.proofs.Preference.{MeasuredHeight, IsBest, best-is}
+use Rattle.survey.proofs.Preference.{MeasuredBelow, IsBest, best-is}
 use Rattle.survey.proofs.Steps.{turnGives, tried-is, count-is, of-candidates, in-candidates, candidates-rise, how-many, no-hit, no-candidate, tried-in-is, tried-before-is, StepIs, first-step-is}
 
 -- a packed polygon of a deck that is there is not all ones
 not-all-ones : (d k n : ℕ) → d < 256 → k < n → n ≤ 16777215 → d * 2 ^ 24 + k ≡ allOnes → ⊥
 not-all-ones d k n h l m e = omega arith
 
-module _ (v : View) (few-decks : v .decks ≤ 256) (few-polygons : (d : ℕ) → v .polygons d ≤ 16777215) (measured : (c : Candidate) → MeasuredHeight v c) where
+module _ (v : View) (few-decks : v .decks ≤ 256) (few-polygons : (d : ℕ) → v .polygons d ≤ 16777215) (S : ℕ) (measured : MeasuredBelow v S) where
   -- step t is the first with candidates, c and the rest
-  module _ (S t : ℕ) (c : Candidate) (rest : List Candidate) (below : t < S) (found : candidates v t ≡ c ∷ rest) (earliest : (u : ℕ) → u < t → candidates v u ≡ []) where
+  module _ (t : ℕ) (c : Candidate) (rest : List Candidate) (below : t < S) (found : candidates v t ≡ c ∷ rest) (earliest : (u : ℕ) → u < t → candidates v u ≡ []) where
     best : Candidate
     best = bestOf v c rest
 
-    is-best : IsBest v measured c rest best
+    is-best : IsBest v c rest best
     unfolding best
-    is-best = best-is v measured c rest (subst (Rising (Earlier v)) found (candidates-rise v t))
+    is-best =
+        best-is v c rest (λ x k. measured t below x (of-candidates v t x (subst (In x) (sym found) k))) (subst (Rising (Earlier v)) found (candidates-rise v t))
 
     best-candidate : IsCandidate v t best
     best-candidate = of-candidates v t best (subst (In best) (sym found) (is-best .0))
@@ -71,9 +72,9 @@ module _ (v : View) (few-decks : v .decks ≤ 256) (few-polygons : (d : ℕ) →
           placed = λ p. is-placed;
         }
 
-  pub survey-holds : (S : ℕ) → SeatSurvey v S (seatRecord v S)
+  pub survey-holds : SeatSurvey v S (seatRecord v S)
   unfolding seatRecord
-  survey-holds S = go (firstStep v 0 S) (first-step-is v 0 S)
+  survey-holds = go (firstStep v 0 S) (first-step-is v 0 S)
     where
       go : (f : Found) → StepIs v 0 S f → SeatSurvey v S (recordOf v S f)
       go Nowhere h =
@@ -82,4 +83,4 @@ module _ (v : View) (few-decks : v .decks ≤ 256) (few-polygons : (d : ℕ) →
             unplaced-numbers = λ e. ap unplacedRecord (tried-before-is v S (λ s l. h s (omega arith) (omega arith)));
             placed = λ p. absurd (p refl);
           }
-      go (InStep t c rest) h = placed-holds S t c rest (omega (arith, h .1)) (h .2) (λ u l. h .3 u (omega arith) l)
+      go (InStep t c rest) h = placed-holds t c rest (omega (arith, h .1)) (h .2) (λ u l. h .3 u (omega arith) l)

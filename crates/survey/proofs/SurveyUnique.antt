@@ -8,7 +8,7 @@ use Rattle.survey.specs.View.{View, candidate}
 use Rattle.survey.specs.Record.{SeatRecord, allOnes, placedRecord}
 use Rattle.survey.specs.Survey.{howMany, Open, NoHitOn, FirstHit, IsCandidate, Prefers, overOpen, samplesBelow, TriedOn, CandidatesOn, Placed, SeatSurvey}
 use Rattle.survey.proofs.Members.{three, sum-same}
-use Rattle.survey.proofs.Preference.{MeasuredHeight, prefers-asym}
+use Rattle.survey.proofs.Preference.{MeasuredHeight, MeasuredBelow, prefers-asym}
 use Rattle.survey.proofs.Steps.{same-hit, no-candidate}
 
 module _ (v : View) where
@@ -26,17 +26,17 @@ module _ (v : View) where
   over-same : (f g : ℕ → ℕ) → ((d : ℕ) → Open v d → f d ≡ g d) → overOpen v f ≡ overOpen v g
   over-same f g h = sum-same (v .opens) f g (v .decks) (λ d l o. h d (l, o))
 
-  module _ (measured : (c : Candidate) → MeasuredHeight v c) (S : ℕ) (r r′ : SeatRecord) where
+  module _ (S : ℕ) (measured : MeasuredBelow v S) (r r′ : SeatRecord) where
     same-step : (p : Placed v S r) (q : Placed v S r′) → p .chosen .step ≡ q .chosen .step
     same-step p q =
         ⊎-elim (λ l. absurd (no-candidate v (p .chosen .step) (p .chosen) (q .earliest (p .chosen .step) l) (p .is-candidate)))
         (⊎-elim (λ e. e) (λ l. absurd (no-candidate v (q .chosen .step) (q .chosen) (p .earliest (q .chosen .step) l) (q .is-candidate))))
         (three (p .chosen .step) (q .chosen .step))
 
-    same-best : (a b : Candidate) → (b ≡ a) ⊎ Prefers v a b → (a ≡ b) ⊎ Prefers v b a → a ≡ b
-    same-best a b (inl e) k = sym e
-    same-best a b (inr p) (inl e) = e
-    same-best a b (inr p) (inr q) = absurd (prefers-asym v measured a b p q)
+    same-best : (a b : Candidate) → MeasuredHeight v a → MeasuredHeight v b → (b ≡ a) ⊎ Prefers v a b → (a ≡ b) ⊎ Prefers v b a → a ≡ b
+    same-best a b ma mb (inl e) k = sym e
+    same-best a b ma mb (inr p) (inl e) = e
+    same-best a b ma mb (inr p) (inr q) = absurd (prefers-asym v a b ma mb p q)
 
     same-placed : Placed v S r → Placed v S r′ → r ≡ r′
     same-placed p q =
@@ -46,6 +46,8 @@ module _ (v : View) where
         (over-same (p .count) (q .count) (λ d o. said-once s d 0 (given d) (p .count d) (q .count d) (p .count-is d o) (subst (λ (u : ℕ). CandidatesOn v u d (q .count d)) (sym e) (q .count-is d o))))
         ∙ ap (λ (c : Candidate). placedRecord v c (samplesBelow v (c .step) + overOpen v (q .tried)) (overOpen v (q .count)))
         (same-best (p .chosen) (q .chosen)
+        (measured (p .chosen .step) (p .below) (p .chosen) (p .is-candidate))
+        (measured (q .chosen .step) (q .below) (q .chosen) (q .is-candidate))
         (p .preferred (q .chosen) (subst (λ (u : ℕ). IsCandidate v u (q .chosen)) (sym e) (q .is-candidate)))
         (q .preferred (p .chosen) (subst (λ (u : ℕ). IsCandidate v u (p .chosen)) e (p .is-candidate))))
         ∙ sym (q .numbers)

@@ -1,0 +1,4 @@
+pub mod SeatFacts
+pub mod RecordsBack
+pub mod SurveyTheorem
+pub mod Examples
