@@ -44,7 +44,7 @@ fn print_answers(input: &[u8]) {
     }
 }
 
-// An input that does not fit is cut, and its last line is then `bad`.
+// An input that does not fit is cut: `bad`, or too few lines, shows it.
 fn main() {
     let mut buffer = [0u8; 262144];
     let n = io::read_full(STDIN_FILENO, &mut buffer);
