@@ -21,14 +21,18 @@ def deck_blocks(deck):
     return [v, n, p, c, struct.pack("<%df" % len(deck["heights"]), *deck["heights"])]
 
 
-def ship_file(decks, reach, steps):
-    head = struct.pack("<IfI", len(decks), reach, steps)
-    blocks = [b for deck in decks for b in deck_blocks(deck)]
+def file_of_blocks(blocks, reach, steps):
+    """The file of whole decks' blocks, five a deck, laid end to end."""
+    head = struct.pack("<IfI", len(blocks) // 5, reach, steps)
     at = 12 + 8 * len(blocks)
     for b in blocks:
         head += struct.pack("<II", at, len(b))
         at += len(b)
     return head + b"".join(blocks)
+
+
+def ship_file(decks, reach, steps):
+    return file_of_blocks([b for deck in decks for b in deck_blocks(deck)], reach, steps)
 
 
 def seat(x, y, deck=ALL_ONES, wish=None):
