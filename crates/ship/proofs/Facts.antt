@@ -1,5 +1,5 @@
 -- What a deck of a passed file is known to be: its blocks lie inside the file, past the header, and its rows are what questions 8 to 13 ask.
-use Prim.Native.Nat.{ℕ, _+_, _-_, _*_, _/_, _%_, _≤_, _<_}
+use Prim.Native.Nat.{ℕ, _+_, _-_, _*_, _≤_, _<_}
 use native.Mathlib.Omega.{arith}
 use mathlib.Core.Path.{_≡_, refl, sym, subst, subst⁻¹}
 use mathlib.Core.Bool.{Bool, true, false, not, _&&_, _||_}
@@ -16,16 +16,17 @@ use Rattle.ship.specs.declared.Blocks.{Blocks}
 use Rattle.ship.specs.declared.Run.{Run}
 use Rattle.ship.specs.declared.FileCheck.the-variants.{Passed}
 use Rattle.ship.specs.Floats.{inSize, reachAllowed}
-use Rattle.ship.specs.Blocks.{decksIn, reachIn, stepsIn, blockAt, blockOf, blocksAt, vertexPlace, neighbourRun, polygonRun, cornerEntry, BlocksInside}
-use Rattle.ship.specs.Questions.{question1, question2, question3, question4, question5, question6, question7, question8, question9, question10, question11, question12, question13, endToEnd, everyFloat, everyCount, headerCheck, firstNo, DeckOfPassed}
-use Rattle.ship.proofs.FloatBits.{size-within, in-size-not-nan, reach-within, reach-not-nan}
+use Rattle.ship.specs.Blocks.{decksIn, reachIn, stepsIn, blockOf, blocksAt, vertexPlace, neighbourRun, polygonRun, cornerEntry, BlocksInside}
+use Rattle.ship.specs.Questions.{question1, question2, question3, question4, question7, question8, question9, question10, question11, question12, question13, endToEnd, everyFloat, everyCount, headerCheck, firstNo, DeckOfPassed}
+use Rattle.ship.proofs.FloatBits.{reach-within, reach-not-nan}
 use Rattle.ship.proofs.EndToEnd.{both, chain-inside}
-use Rattle.ship.proofs.Passed.{HeaderYes, header-yes, BlocksYes, deck-yes, passed-header, passed-deck}
+use Rattle.ship.proofs.Places.{block-placed, made-at, made-inside}
+use Rattle.ship.proofs.Passed.{HeaderYes, header-all-yes, BlocksYes, deck-all-yes, passed-header, passed-deck}
 
 -- ---- the header
 module _ (s : List ℕ) (passed : firstNo s ≡ Passed) where
   header : HeaderYes s
-  header = header-yes s (passed-header s passed)
+  header = header-all-yes s (passed-header s passed)
 
   pub at-least-12 : 12 ≤ length s
   unfolding question1
@@ -54,18 +55,6 @@ module _ (s : List ℕ) (passed : firstNo s ≡ Passed) where
       (leb-true 1 (stepsIn s) (p .0), leb-true (stepsIn s) 16 (p .1))
 
 -- ---- where the blocks lie
-record Placed (s : List ℕ) (r : Run) : Type 0 where
-  past : 12 ≤ r .start
-  ends : r .start + r .count ≤ length s
-
-placed : (s : List ℕ) (d k : ℕ) → headerCheck s ≡ Passed → d < decksIn s → k < 5 → Placed s (blockOf s d k)
-unfolding question6
-placed s d k p h l =
-    let j = 5 * d + k in
-    let e : 0 + j ≡ j = omega arith in
-    let c = rw e at (chain-inside (blockAt s) (length s) (12 + 40 * decksIn s) 0 (5 * decksIn s) (header-yes s p .yes6) j (omega arith)) in
-    record { past = omega (arith, c .0); ends = c .1 }
-
 -- each block is past the header
 pub record BlocksPast (b : Blocks) : Type 0 where
   pub v-past : 12 ≤ b .v
@@ -78,27 +67,11 @@ module _ (s : List ℕ) (d : ℕ) (passed : headerCheck s ≡ Passed) (there : d
   pub blocks-past : BlocksPast (blocksAt s d)
   unfolding blocksAt
   blocks-past =
-      let past : (k : ℕ) → k < 5 → 12 ≤ blockOf s d k .start = λ k l. placed s d k passed there l .past in
+      let past : (k : ℕ) → k < 5 → 12 ≤ blockOf s d k .start = λ k l. omega (arith, block-placed s passed there k l .0) in
       record { v-past = past 0 (omega arith); n-past = past 1 (omega arith); p-past = past 2 (omega arith); c-past = past 3 (omega arith); h-past = past 4 (omega arith) }
 
-  -- 8 bytes at least in V, without which its last row would not end with the block
-  offset-there : question7 s d ≡ true → 8 ≤ blockOf s d 0 .count
-  unfolding question7
-  offset-there q =
-      let v = blockOf s d 0 .count in
-      leb-true 8 v (both (leb 8 v) (eqb ((v - 8) % 16) 0) (both (leb 8 v && eqb ((v - 8) % 16) 0) _ q .0) .0)
-
   pub blocks-inside : question7 s d ≡ true → BlocksInside s (blocksAt s d)
-  unfolding blocksAt
-  blocks-inside q =
-      let ends : (k : ℕ) → k < 5 → blockOf s d k .start + blockOf s d k .count ≤ length s = λ k l. placed s d k passed there l .ends in
-      record {
-        v-inside = omega (arith, offset-there q, ends 0 (omega arith));
-        n-inside = omega (arith, ends 1 (omega arith));
-        p-inside = omega (arith, ends 2 (omega arith));
-        c-inside = omega (arith, ends 3 (omega arith));
-        h-inside = omega (arith, ends 4 (omega arith));
-      }
+  blocks-inside q = subst (BlocksInside s) (made-at s d refl refl refl refl refl) (made-inside s d refl refl refl refl refl (passed, (there, q)))
 
 -- ---- a deck
 pub record Sound (s : List ℕ) (b : Blocks) : Type 0 where
@@ -176,5 +149,5 @@ pub sound : {s : List ℕ} {b : Blocks} → DeckOfPassed s b → Sound s b
 sound {s} h =
     let d = h .number in
     let p = passed-header s (h .passed) in
-    let q = deck-yes s d (passed-deck s (h .passed) d (h .there)) in
+    let q = deck-all-yes s d (passed-deck s (h .passed) d (h .there)) in
     subst⁻¹ (Sound s) (h .is) (sound-blocks s (blocksAt s d) (blocks-inside s d p (h .there) (q .0)) (blocks-past s d p (h .there)) (q .1))

@@ -27,9 +27,9 @@ pub record HeaderYes (s : List ℕ) : Type 0 where
   pub yes5 : question5 s ≡ true
   pub yes6 : question6 s ≡ true
 
-pub header-yes : (s : List ℕ) → headerCheck s ≡ Passed → HeaderYes s
+pub header-all-yes : (s : List ℕ) → headerCheck s ≡ Passed → HeaderYes s
 unfolding headerCheck
-header-yes s h =
+header-all-yes s h =
     let q1 = asked (question1 s) 1 _ h in
     let q2 = asked (question2 s) 2 _ (q1 .1) in
     let q3 = asked (question3 s) 3 _ (q2 .1) in
@@ -38,9 +38,9 @@ header-yes s h =
     let q6 = asked (question6 s) 6 Passed (q5 .1) in
     record { yes1 = q1 .0; yes2 = q2 .0; yes3 = q3 .0; yes4 = q4 .0; yes5 = q5 .0; yes6 = q6 .0 }
 
-pub header-passed : (s : List ℕ) → HeaderYes s → headerCheck s ≡ Passed
+pub all-yes-header : (s : List ℕ) → HeaderYes s → headerCheck s ≡ Passed
 unfolding headerCheck
-header-passed s y = rw (y .yes1, y .yes2, y .yes3, y .yes4, y .yes5, y .yes6)
+all-yes-header s y = rw (y .yes1, y .yes2, y .yes3, y .yes4, y .yes5, y .yes6)
 
 -- ---- 7 to 13
 pub record BlocksYes (s : List ℕ) (b : Blocks) : Type 0 where
@@ -51,9 +51,9 @@ pub record BlocksYes (s : List ℕ) (b : Blocks) : Type 0 where
   pub yes12 : question12 s b ≡ true
   pub yes13 : question13 s b ≡ true
 
-pub blocks-yes : (s : List ℕ) (b : Blocks) → blocksCheck s b ≡ Passed → BlocksYes s b
+pub blocks-all-yes : (s : List ℕ) (b : Blocks) → blocksCheck s b ≡ Passed → BlocksYes s b
 unfolding blocksCheck
-blocks-yes s b h =
+blocks-all-yes s b h =
     let q8 = asked (question8 b) 8 _ h in
     let q9 = asked (question9 b) 9 _ (q8 .1) in
     let q10 = asked (question10 b) 10 _ (q9 .1) in
@@ -62,11 +62,11 @@ blocks-yes s b h =
     let q13 = asked (question13 s b) 13 Passed (q12 .1) in
     record { yes8 = q8 .0; yes9 = q9 .0; yes10 = q10 .0; yes11 = q11 .0; yes12 = q12 .0; yes13 = q13 .0 }
 
-pub deck-yes : (s : List ℕ) (d : ℕ) → deckCheck s d ≡ Passed → (question7 s d ≡ true) × BlocksYes s (blocksAt s d)
+pub deck-all-yes : (s : List ℕ) (d : ℕ) → deckCheck s d ≡ Passed → (question7 s d ≡ true) × BlocksYes s (blocksAt s d)
 unfolding deckCheck
-deck-yes s d h =
+deck-all-yes s d h =
     let q7 = asked (question7 s d) 7 (blocksCheck s (blocksAt s d)) h in
-    (q7 .0, blocks-yes s (blocksAt s d) (q7 .1))
+    (q7 .0, blocks-all-yes s (blocksAt s d) (q7 .1))
 
 -- ---- the file
 decks-passed : (s : List ℕ) (n d : ℕ) → decksCheck s d n ≡ Passed → (k : ℕ) → k < n → deckCheck s (d + k) ≡ Passed
@@ -79,10 +79,10 @@ decks-passed s (suc n) d h (suc k) l =
     let e : d + suc k ≡ d + 1 + k = omega arith in
     rw e (decks-passed s n (d + 1) (afterwards (deckCheck s d) (decksCheck s (d + 1) n) h .1) k (omega arith))
 
-pub all-passed : (s : List ℕ) (n d : ℕ) → ((k : ℕ) → d ≤ k → k < d + n → deckCheck s k ≡ Passed) → decksCheck s d n ≡ Passed
+pub all-yes-decks : (s : List ℕ) (n d : ℕ) → ((k : ℕ) → d ≤ k → k < d + n → deckCheck s k ≡ Passed) → decksCheck s d n ≡ Passed
 unfolding decksCheck
-all-passed s zero d h = refl
-all-passed s (suc n) d h = rw (h d (omega arith) (omega arith)) (all-passed s n (d + 1) (λ k a b. h k (omega arith) (omega arith)))
+all-yes-decks s zero d h = refl
+all-yes-decks s (suc n) d h = rw (h d (omega arith) (omega arith)) (all-yes-decks s n (d + 1) (λ k a b. h k (omega arith) (omega arith)))
 
 module _ (s : List ℕ) (passed : firstNo s ≡ Passed) where
   pub passed-header : headerCheck s ≡ Passed

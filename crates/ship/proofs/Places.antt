@@ -1,47 +1,37 @@
 -- What the questions that passed show of the places of things: each lies inside the file.
-use Prim.Native.Nat.{ℕ, _+_, _-_, _*_, _/_, _%_, _^_, _≤_, _<_}
+use Prim.Native.Nat.{ℕ, _+_, _-_, _*_, _/_, _%_, _≤_, _<_}
 use native.Mathlib.Omega.{arith}
-use mathlib.Core.Path.{_≡_, refl, sym, ap, _∙_}
-use mathlib.Core.Bool.{Bool, true, false, _&&_, and-false}
+use mathlib.Core.Path.{_≡_, sym, _∙_}
+use mathlib.Core.Bool.{true, false, _&&_}
 use mathlib.Core.List.{List}
 use lib.Dec.{T, eqb, leb, leb→le}
 use lib.ListN.{length}
 use mir.Syntax.{w64}
 use mir.Val.{Fits}
-use borrow.Author.Tests.{leb-true, eqb-true, le-leb, lt-leb, eq-eqb, ne-eqb}
-use Rattle.words.specs.Bytes.{u32At}
+use borrow.Author.Tests.{leb-true, le-leb, lt-leb, eq-eqb, ne-eqb}
 use Rattle.ship.specs.declared.Blocks.{Blocks}
 use Rattle.ship.specs.declared.Run.{Run}
 use Rattle.ship.specs.declared.FileCheck.{FileCheck}
-use Rattle.ship.specs.declared.FileCheck.the-variants.{Passed, No}
+use Rattle.ship.specs.declared.FileCheck.the-variants.{Passed}
 use Rattle.ship.specs.Blocks.{decksIn, runAt, blockAt, blockOf, blocksAt, RowsInside, BlocksInside}
-use Rattle.ship.specs.Questions.{endToEnd, question1, question2, question3, question4, question5, question6, question7, headerCheck, ask}
+use Rattle.ship.specs.Questions.{endToEnd, question2, question5, question6, question7, headerCheck}
 use Rattle.ship.proofs.EndToEnd.{both, chain-inside}
 use Rattle.ship.proofs.Asks.{header-yes}
+use Rattle.ship.proofs.Passed.{header-all-yes}
 
 -- ---- the header
-pub asked : (b : Bool) (n : ℕ) (later : FileCheck) → ask b n later ≡ Passed → (b ≡ true) × (later ≡ Passed)
-asked true n later e = (refl, e)
-asked false n later e = let z : _≡_ {A = ℕ} 0 1 = cc in absurd (omega arith)
-
 pub record Header (s : List ℕ) : Type 0 where
   pub few : decksIn s ≤ 256
   pub table : 12 + 40 * decksIn s ≤ length s
   pub chain : endToEnd (blockAt s) (length s) (12 + 40 * decksIn s) 0 (5 * decksIn s) ≡ true
 
 pub header-passed : (s : List ℕ) → headerCheck s ≡ Passed → Header s
-unfolding headerCheck question2 question5 question6
+unfolding question2 question5 question6
 header-passed s h =
-    let a2 = asked (question2 s) 2 _ (asked (question1 s) 1 _ h .1) in
-    let a4 = asked (question4 s) 4 _ (asked (question3 s) 3 _ (a2 .1) .1) in
-    let a5 = asked (question5 s) 5 _ (a4 .1) in
-    record {
-      few = leb-true _ _ (both (leb 1 (decksIn s)) _ (a2 .0) .1);
-      table = leb-true _ _ (a5 .0);
-      chain = asked (question6 s) 6 Passed (a5 .1) .0;
-    }
+    let y = header-all-yes s h in
+    record { few = leb-true _ _ (both (leb 1 (decksIn s)) _ (y .yes2) .1); table = leb-true _ _ (y .yes5); chain = y .yes6 }
 
--- the table of blocks, before question 6 and after the header's answer
+-- the rows of the table of blocks
 pub table-rows : {s : List ℕ} (decks : ℕ) → 12 + 40 * decks ≤ length s → RowsInside s 12 8 8 (5 * decks)
 table-rows decks h = record { row = λ i l. omega arith }
 
@@ -67,10 +57,13 @@ module _ (s : List ℕ) {d : ℕ} (passed : headerCheck s ≡ Passed) (there : d
   pub pair-there : (k : ℕ) → T (leb k 4) → 12 + 8 * (5 * d + k) + 8 ≤ length s
   pair-there k t = omega (arith, header .table, leb→le k 4 t)
 
-  pub block-inside : (k : ℕ) {r : Run} → r ≡ blockOf s d k → k < 5 → r .start + r .count ≤ length s
-  block-inside k e l =
+  pub block-placed : (k : ℕ) → k < 5 → (12 + 40 * decksIn s ≤ blockOf s d k .start) × (blockOf s d k .start + blockOf s d k .count ≤ length s)
+  block-placed k l =
       let z : 0 + (5 * d + k) ≡ 5 * d + k = omega arith in
-      rw e (rw z at (chain-inside (blockAt s) (length s) (12 + 40 * decksIn s) 0 (5 * decksIn s) (header .chain) (5 * d + k) (omega arith) .1))
+      rw z at (chain-inside (blockAt s) (length s) (12 + 40 * decksIn s) 0 (5 * decksIn s) (header .chain) (5 * d + k) (omega arith))
+
+  pub block-inside : (k : ℕ) {r : Run} → r ≡ blockOf s d k → k < 5 → r .start + r .count ≤ length s
+  block-inside k e l = rw e (block-placed k l .1)
 
 -- 5 * d + 0 is no 5 * d by computing
 first-block : (s : List ℕ) (d : ℕ) {v : Run} → v ≡ runAt s 12 8 (5 * d) → v ≡ blockOf s d 0
@@ -134,7 +127,7 @@ module _ (s : List ℕ) (d : ℕ) {v n p c h : Run}
   unfolding blocksAt
   made-at = simp (first-block s d hv, hn, hp, hc, hh)
 
-  -- what `blocks_at` requires is one premise: its parts lie too deep for a search among five calls
+  -- One premise for all that `blocks_at` requires: a search among its five calls does not reach the parts.
   pub made-inside : (headerCheck s ≡ Passed) × ((d < decksIn s) × (question7 s d ≡ true)) → BlocksInside s made
   made-inside q =
       record {
@@ -146,6 +139,7 @@ module _ (s : List ℕ) (d : ℕ) {v n p c h : Run}
       }
 
 pub ruleset pairs = (first-fits, pair-fits, first-there, pair-there, v-short, v-ragged, n-ragged, p-ragged, c-ragged, by-h)
+
 pub ruleset deck-places = (first-fits, pair-fits, first-there, pair-there, offset-there, made-at, made-inside)
 
 -- ---- the tables in a deck's blocks
