@@ -1,8 +1,8 @@
 -- What the questions that passed show of the places of things: each lies inside the file.
 use Prim.Native.Nat.{ℕ, _+_, _-_, _*_, _/_, _%_, _≤_, _<_}
 use native.Mathlib.Omega.{arith}
-use mathlib.Core.Path.{_≡_, refl, sym, _∙_}
-use mathlib.Core.Bool.{Bool, true, false, _&&_}
+use mathlib.Core.Path.{_≡_, refl, sym, ap, _∙_}
+use mathlib.Core.Bool.{Bool, true, false, _&&_, and-false}
 use mathlib.Core.List.{List}
 use lib.Dec.{T, eqb, leb, leb→le}
 use lib.ListN.{length}
@@ -75,45 +75,43 @@ module _ (s : List ℕ) {d : ℕ} (passed : headerCheck s ≡ Passed) (there : d
 first-block : (s : List ℕ) (d : ℕ) {v : Run} → v ≡ runAt s 12 8 (5 * d) → v ≡ blockOf s d 0
 first-block s d e = let z : 5 * d + 0 ≡ 5 * d = omega arith in rw z e
 
--- the first 8 bytes of V are the deck's offset
-pub offset-there : (s : List ℕ) (d : ℕ) {v : Run} → v ≡ runAt s 12 8 (5 * d) → question7 s d ≡ true → 8 ≤ v .count
-unfolding question7
-offset-there s d e q = rw (first-block s d e) (leb-true 8 (blockOf s d 0 .count) (both _ _ (both _ _ q .0) .0))
+-- ---- question 7, part by part, of the pairs as the code read them
+abbrev vWhole : ℕ → Bool
+vWhole bytes = leb 8 bytes && eqb ((bytes - 8) % 16) 0
 
--- ---- question 7, with the five pairs as the code read them
+module _ (s : List ℕ) (d : ℕ) {v : Run} (e : v ≡ runAt s 12 8 (5 * d)) where
+  v-bytes : v .count ≡ blockOf s d 0 .count
+  v-bytes = ap (λ (r : Run). r .count) (first-block s d e)
+
+  pub v-short : v .count < 8 → vWhole (blockOf s d 0 .count) ≡ false
+  v-short l = simp (lt-leb 8 (blockOf s d 0 .count) (rw v-bytes at l))
+
+  pub v-ragged : ((v .count - 8) % 16 ≡ 0 → ⊥) → vWhole (blockOf s d 0 .count) ≡ false
+  v-ragged n = simp (ne-eqb ((blockOf s d 0 .count - 8) % 16) 0 (rw v-bytes at n), and-false)
+
+  pub v-whole : 8 ≤ v .count → (v .count - 8) % 16 ≡ 0 → vWhole (blockOf s d 0 .count) ≡ true
+  v-whole l n = simp (le-leb 8 (blockOf s d 0 .count) (rw v-bytes at l), eq-eqb ((blockOf s d 0 .count - 8) % 16) 0 (rw v-bytes at n))
+
+  -- the first 8 bytes of V are the deck's offset
+  pub offset-there : question7 s d ≡ true → 8 ≤ v .count
+  unfolding question7
+  offset-there q = rw v-bytes (leb-true 8 (blockOf s d 0 .count) (both _ _ (both _ _ q .0) .0))
+
+-- the other blocks
+module _ (unit : ℕ) {r : Run} {a b : ℕ} (e : r ≡ record { start = a; count = b }) where
+  pub rows-left : eqb (r .count % unit) 0 ≡ eqb (b % unit) 0
+  rows-left = rw e
+
+  pub rows-ragged : (r .count % unit ≡ 0 → ⊥) → eqb (b % unit) 0 ≡ false
+  rows-ragged n = sym rows-left ∙ ne-eqb (r .count % unit) 0 n
+
+  pub rows-whole : r .count % unit ≡ 0 → eqb (b % unit) 0 ≡ true
+  rows-whole n = sym rows-left ∙ eq-eqb (r .count % unit) 0 n
+
+-- ---- where the deck lies
 module _ (s : List ℕ) (d : ℕ) {v n p c h : Run}
     (hv : v ≡ runAt s 12 8 (5 * d)) (hn : n ≡ runAt s 12 8 (5 * d + 1)) (hp : p ≡ runAt s 12 8 (5 * d + 2))
     (hc : c ≡ runAt s 12 8 (5 * d + 3)) (hh : h ≡ runAt s 12 8 (5 * d + 4)) where
-  whole : question7 s d ≡ ((leb 8 (v .count) && eqb ((v .count - 8) % 16) 0) && (eqb (n .count % 4) 0 && (eqb (p .count % 8) 0 && (eqb (c .count % 4) 0 && eqb (h .count % 4) 0))))
-  unfolding question7
-  whole = simp (first-block s d hv, hn, hp, hc, hh)
-
-  pub v-short : v .count < 8 → false ≡ question7 s d
-  v-short e = sym (whole ∙ simp (lt-leb 8 (v .count) e))
-
-  module _ (e8 : 8 ≤ v .count) where
-    pub v-ragged : ((v .count - 8) % 16 ≡ 0 → ⊥) → false ≡ question7 s d
-    v-ragged e = sym (whole ∙ simp (le-leb 8 (v .count) e8, ne-eqb ((v .count - 8) % 16) 0 e))
-
-    module _ (ev : (v .count - 8) % 16 ≡ 0) where
-      after-v : question7 s d ≡ (eqb (n .count % 4) 0 && (eqb (p .count % 8) 0 && (eqb (c .count % 4) 0 && eqb (h .count % 4) 0)))
-      after-v = whole ∙ simp (le-leb 8 (v .count) e8, eq-eqb ((v .count - 8) % 16) 0 ev)
-
-      pub n-ragged : (n .count % 4 ≡ 0 → ⊥) → false ≡ question7 s d
-      n-ragged e = sym (after-v ∙ simp (ne-eqb (n .count % 4) 0 e))
-
-      module _ (en : n .count % 4 ≡ 0) where
-        pub p-ragged : (p .count % 8 ≡ 0 → ⊥) → false ≡ question7 s d
-        p-ragged e = sym (after-v ∙ simp (eq-eqb (n .count % 4) 0 en, ne-eqb (p .count % 8) 0 e))
-
-        module _ (ep : p .count % 8 ≡ 0) where
-          pub c-ragged : (c .count % 4 ≡ 0 → ⊥) → false ≡ question7 s d
-          c-ragged e = sym (after-v ∙ simp (eq-eqb (n .count % 4) 0 en, eq-eqb (p .count % 8) 0 ep, ne-eqb (c .count % 4) 0 e))
-
-          pub by-h : c .count % 4 ≡ 0 → eqb (h .count % 4) 0 ≡ question7 s d
-          by-h ec = sym (after-v ∙ simp (eq-eqb (n .count % 4) 0 en, eq-eqb (p .count % 8) 0 ep, eq-eqb (c .count % 4) 0 ec))
-
-  -- ---- where the deck lies
   abbrev made : Blocks
   made =
       record {
@@ -144,7 +142,7 @@ module _ (s : List ℕ) (d : ℕ) {v n p c h : Run}
         h-inside = omega (arith, block-inside s (q .0) (q .1 .0) 4 hh (omega arith));
       }
 
-pub ruleset pairs = (first-fits, pair-fits, first-there, pair-there, v-short, v-ragged, n-ragged, p-ragged, c-ragged, by-h)
+pub ruleset deck-rows = (first-fits, pair-fits, first-there, pair-there, v-short, v-ragged, v-whole, rows-ragged, rows-whole, rows-left)
 
 pub ruleset deck-places = (first-fits, pair-fits, first-there, pair-there, offset-there, made-at, made-inside)
 
