@@ -2,3 +2,4 @@ pub mod SeatFacts
 pub mod RecordsBack
 pub mod SurveyTheorem
 pub mod Examples
+pub mod Ways
