@@ -28,11 +28,10 @@ height-there h some there = ⊎-elim (λ none. omega arith) (λ all. omega arith
 
 pub ruleset corners = (point-read, height-read, height-there)
 
--- ---- a list with an entry for each vertex
+-- ---- a list with an entry for each of count vertices
+module _ {A : Type 0} (f : ℕ → A) (l : List ℕ) {count j : ℕ} (n : count ≡ length l) where
+  pub made-more : j < count → drop j (map f l) ≡ f (getD l j 0) ∷ drop (j + 1) (map f l)
+  made-more h = rw (add-one, ← List·getD-map f l j 0) (drop-cons (map f l) j (f 0) (rw length-map (rw n at h)))
 
-module _ {A : Type 0} (f : ℕ → A) (l : List ℕ) where
-  pub made-more : (j : ℕ) → j < length l → drop j (map f l) ≡ f (getD l j 0) ∷ drop (j + 1) (map f l)
-  made-more j h = rw (add-one, ← List·getD-map f l j 0) (drop-cons (map f l) j (f 0) (rw length-map h))
-
-  pub made-none : (j : ℕ) → length l ≤ j → drop j (map f l) ≡ []
-  made-none j h = drop-of-length-le (map f l) {i = j} (rw length-map h)
+  pub made-none : count ≤ j → drop j (map f l) ≡ []
+  made-none h = drop-of-length-le (map f l) {i = j} (rw length-map (rw n at h))

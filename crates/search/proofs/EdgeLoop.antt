@@ -1,8 +1,7 @@
 -- `point_in_polygon`: what its loop over the edges says at its start, in a turn, where it stops and at its end.
 use Prim.Native.Nat.{ℕ, _+_, _≤_, _<_}
-use native.Mathlib.Omega.{arith}
 use mathlib.Core.Path.{_≡_, sym, _∙_}
-use mathlib.Core.Bool.{Bool, true, false}
+use mathlib.Core.Bool.{true, false}
 use lib.ListN.{length, getD, drop}
 use Rattle.geometry.specs.declared.Vec2.{Vec2}
 use Rattle.geometry.specs.declared.EdgeTest.{EdgeTest}
@@ -21,13 +20,13 @@ module _ {deck : Deck} {k count : ℕ} {p first : Vec2} where
   pub edges-all : count ≡ length (cornersOf deck k) → 1 ≤ count → first ≡ pointOf deck (getD (cornersOf deck k) 0 0)
       → EdgesLeft deck k count p first first 1
   unfolding passesAt polygonPoints pointInPolygon
-  edges-all e h f = record { counts = e; same = rw (f, made-more (pointOf deck) (cornersOf deck k) 0 (omega arith)) }
+  edges-all e h f = record { counts = e; same = rw (f, made-more (pointOf deck) (cornersOf deck k) e h) }
 
   module _ {a : Vec2} {j : ℕ} {t : EdgeTest} (l : EdgesLeft deck k count p first a j) where
     module _ {b : Vec2} (h : j < count) (read : b ≡ pointOf deck (getD (cornersOf deck k) j 0)) (test : t ≡ edgeTestOf p a b) where
       edge : passesAt deck p k ≡ answerOf t (edgesFrom p first b (drop (j + 1) (polygonPoints deck k)))
       unfolding edgesFrom polygonPoints
-      edge = l .same ∙ rw (made-more (pointOf deck) (cornersOf deck k) j (omega (arith, l .counts)), test, read)
+      edge = l .same ∙ rw (made-more (pointOf deck) (cornersOf deck k) (l .counts) h, test, read)
 
       pub edge-next : t ≡ Next → EdgesLeft deck k count p first b (j + 1)
       edge-next e = record { counts = l .counts; same = edge ∙ rw e }
@@ -42,7 +41,7 @@ module _ {deck : Deck} {k count : ℕ} {p first : Vec2} where
     module _ (h : count ≤ j) (test : t ≡ edgeTestOf p a first) where
       last : passesAt deck p k ≡ answerOf t true
       unfolding edgesFrom polygonPoints
-      last = l .same ∙ rw (made-none (pointOf deck) (cornersOf deck k) j (omega (arith, l .counts)), test)
+      last = l .same ∙ rw (made-none (pointOf deck) (cornersOf deck k) (l .counts) h, test)
 
       pub last-next : t ≡ Next → true ≡ passesAt deck p k
       last-next e = sym (last ∙ rw e)

@@ -1,5 +1,5 @@
 -- `mean_height` and `height_at`: what their loops over the vertices say at their start, in a turn, where they stop and at their end.
-use Prim.Native.Nat.{ℕ, zero, suc, _+_, _-_, _≤_, _<_}
+use Prim.Native.Nat.{ℕ, _+_, _-_, _≤_, _<_}
 use native.Mathlib.Omega.{arith}
 use mathlib.Core.Path.{_≡_, refl, sym, ap, _∙_}
 use mathlib.Core.Bool.{Bool, true, false}
@@ -31,7 +31,7 @@ module _ {deck : Deck} {k count : ℕ} where
       → h ≡ heightOf deck (getD (cornersOf deck k) 0 0) → sum ≡ firstOf h → SumLeft deck k count sum 1
   unfolding polygonCorners meanHeight
   sum-first n some e f =
-      record { counts = n; summed = ap (λ t. t .count) f; same = rw (f, e, made-more (cornerAt deck) (cornersOf deck k) 0 (omega arith)) }
+      record { counts = n; summed = ap (λ t. t .count) f; same = rw (f, e, made-more (cornerAt deck) (cornersOf deck k) n some) }
 
   module _ {sum : HeightSum} {j : ℕ} (l : SumLeft deck k count sum j) where
     pub sum-more : {h : Float} {next : HeightSum} → j < count → h ≡ heightOf deck (getD (cornersOf deck k) j 0) → next ≡ plusHeight sum h
@@ -41,12 +41,12 @@ module _ {deck : Deck} {k count : ℕ} where
         record {
           counts = l .counts;
           summed = rw (f, l .summed);
-          same = l .same ∙ rw (f, e, made-more (cornerAt deck) (cornersOf deck k) j (omega (arith, l .counts)));
+          same = l .same ∙ rw (f, e, made-more (cornerAt deck) (cornersOf deck k) (l .counts) b);
         }
 
     pub sum-mean : {r : Float} → count ≤ j → r ≡ meanOf sum → r ≡ meanHeight (polygonCorners deck k)
     unfolding polygonCorners sumFrom
-    sum-mean b e = e ∙ sym (l .same ∙ rw (made-none (cornerAt deck) (cornersOf deck k) j (omega (arith, l .counts))))
+    sum-mean b e = e ∙ sym (l .same ∙ rw (made-none (cornerAt deck) (cornersOf deck k) (l .counts) b))
 
 pub ruleset sums = (sum-first, sum-more, sum-mean)
 
@@ -87,7 +87,7 @@ heights-all s b {k} {count} {place} some n h e =
       before = e;
       same =
           some-entries (deck .heights) place (polygonCorners deck k) (λ z. some (sym (heights-length s b) ∙ z))
-          ∙ rw (made-more (cornerAt deck) (cornersOf deck k) 0 (omega arith));
+          ∙ rw (made-more (cornerAt deck) (cornersOf deck k) n h);
     }
 
 module _ {deck : Deck} {k count : ℕ} {place first a : Vec2} {j : ℕ} (l : HeightsLeft deck k count place first a j) where
@@ -100,14 +100,14 @@ module _ {deck : Deck} {k count : ℕ} {place first a : Vec2} {j : ℕ} (l : Hei
           counts = l .counts;
           begun = l .begun;
           before = rw z read;
-          same = l .same ∙ rw (made-more (cornerAt deck) (cornersOf deck k) j (omega (arith, l .counts)), z, ← read, ← l .before, sym test ∙ e);
+          same = l .same ∙ rw (made-more (cornerAt deck) (cornersOf deck k) (l .counts) h, z, ← read, ← l .before, sym test ∙ e);
         }
 
     pub height-on-edge : {h0 h1 : Float} {r : Height} → t ≡ true → h0 ≡ heightOf deck (getD (cornersOf deck k) (j - 1) 0)
         → h1 ≡ heightOf deck (getD (cornersOf deck k) j 0) → r ≡ heightAlong place a b h0 h1 → r ≡ heightOn deck k place
     unfolding heightFrom polygonCorners
     height-on-edge e x y d =
-        d ∙ sym (l .same ∙ rw (made-more (cornerAt deck) (cornersOf deck k) j (omega (arith, l .counts)), ← read, ← l .before, sym test ∙ e, x, y))
+        d ∙ sym (l .same ∙ rw (made-more (cornerAt deck) (cornersOf deck k) (l .counts) h, ← read, ← l .before, sym test ∙ e, x, y))
 
   module _ {t : Bool} (h : count ≤ j) (test : t ≡ onSegment place a first) where
     pub height-on-last : {h0 h1 : Float} {r : Height} → j ≤ count → t ≡ true → h0 ≡ heightOf deck (getD (cornersOf deck k) (count - 1) 0)
@@ -115,11 +115,11 @@ module _ {deck : Deck} {k count : ℕ} {place first a : Vec2} {j : ℕ} (l : Hei
     unfolding heightFrom polygonCorners
     height-on-last b e x y d =
         let z : count ≡ j = omega arith in
-        d ∙ sym (l .same ∙ rw (made-none (cornerAt deck) (cornersOf deck k) j (omega (arith, l .counts)), ← l .begun, ← l .before, sym test ∙ e, x, y, z))
+        d ∙ sym (l .same ∙ rw (made-none (cornerAt deck) (cornersOf deck k) (l .counts) h, ← l .begun, ← l .before, sym test ∙ e, x, y, z))
 
     pub height-mean : {m : Float} → t ≡ false → m ≡ meanHeight (polygonCorners deck k) → Known m ≡ heightOn deck k place
     unfolding heightFrom polygonCorners
     height-mean e f =
-        sym (l .same ∙ rw (made-none (cornerAt deck) (cornersOf deck k) j (omega (arith, l .counts)), ← l .begun, ← l .before, sym test ∙ e, f))
+        sym (l .same ∙ rw (made-none (cornerAt deck) (cornersOf deck k) (l .counts) h, ← l .begun, ← l .before, sym test ∙ e, f))
 
 pub ruleset heights = (heights-none, heights-all, heights-more, height-on-edge, height-on-last, height-mean)

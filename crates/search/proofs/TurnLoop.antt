@@ -49,12 +49,14 @@ module _ {deck : Deck} {p : Vec2} {reach : Float} {s : ℕ} where
       -- the first polygon that passes, at the first sample where one does
       pub turn-hit : SamplesLeft deck p reach s i → i < 10 * s + 1 → r ≡ true → At i k ≡ deckTurn deck p reach s
       turn-hit l b e =
-          sym (l .same ∙ sampleHit-more-yes (hits deck p reach s) (length (deck .polygons)) i (10 * s + 1) i k b (m .same ∙ polygonHit-more-yes (hits deck p reach s) i k n h (sym answer ∙ e)))
+          let hit = m .same ∙ polygonHit-more-yes (hits deck p reach s) i k n h (sym answer ∙ e) in
+          sym (l .same ∙ sampleHit-more-yes (hits deck p reach s) (length (deck .polygons)) i (10 * s + 1) i k b hit)
 
     module _ (h : n ≤ k) (l : SamplesLeft deck p reach s i) (b : i < 10 * s + 1) where
       pub samples-more : SamplesLeft deck p reach s (i + 1)
       samples-more =
-          record { same = l .same ∙ sampleHit-more-no (hits deck p reach s) (length (deck .polygons)) i (10 * s + 1) b (m .same ∙ polygonHit-none (hits deck p reach s) i k n h) }
+          let none = m .same ∙ polygonHit-none (hits deck p reach s) i k n h in
+          record { same = l .same ∙ sampleHit-more-no (hits deck p reach s) (length (deck .polygons)) i (10 * s + 1) b none }
 
       pub turn-missed : 10 * s + 1 ≤ i + 1 → Missed ≡ deckTurn deck p reach s
       turn-missed e = sym (samples-more .same ∙ sampleHit-none (hits deck p reach s) (length (deck .polygons)) (i + 1) (10 * s + 1) e)
