@@ -1,0 +1,1 @@
+-- Numbers and lines of the document, as definitions evaluated.

@@ -1,0 +1,6 @@
+pub mod Digits
+pub mod Joining
+pub mod Backward
+pub mod Ways
+pub mod Parts
+pub mod Examples
