@@ -1,9 +1,9 @@
 -- Digits that are counted, and written from the last one back.
-use Prim.Native.Nat.{ℕ, zero, suc, _+_, _-_, _/_, _%_, _^_, _≤_, _<_}
+use Prim.Native.Nat.{ℕ, suc, _+_, _-_, _/_, _%_, _^_, _≤_, _<_}
 use native.Mathlib.Omega.{arith}
 use mathlib.Core.Path.{_≡_, refl, sym, ap, _∙_}
 use mathlib.Core.List.{List, [], _∷_, _++_, append-assoc}
-use lib.ListN.{length, getD, take, drop, set, length-append, length-set}
+use lib.ListN.{length, set, length-append, length-set}
 use lib.Seq.{drop-cons, getD-set-same, take-set-le, drop-set-lt}
 use Rattle.words.specs.Bytes.{splice}
 use Rattle.words.proofs.Splice.{splice-nil}

@@ -1,9 +1,9 @@
--- The digits of a number: how many there are, which, and that no other number has them.
-use Prim.Native.Nat.{ℕ, zero, suc, _+_, _-_, _*_, _/_, _%_, _^_, _≤_, _<_}
+-- The digits of a number: how many there are, and which.
+use Prim.Native.Nat.{ℕ, zero, suc, _+_, _/_, _%_, _^_, _≤_, _<_}
 use native.Mathlib.Omega.{arith}
 use native.Mathlib.Nat.{pow-suc}
 use mathlib.Core.Path.{_≡_, refl, sym, ap, _∙_}
-use mathlib.Core.Bool.{Bool, true, false, cond}
+use mathlib.Core.Bool.{Bool, true, false}
 use mathlib.Core.List.{List, [], _∷_, _++_, append-assoc, append-nil}
 use lib.Dec.{ltb}
 use lib.ListN.{length, length-append}
@@ -41,19 +41,20 @@ by-test : {P : Type 0} (b : Bool) (n : ℕ) → ltb n 10 ≡ b → (n < 10 → P
 by-test true n e one more = one (ltb-true n 10 e)
 by-test false n e one more = more (ltb-false n 10 e)
 
-one-or-more : {P : Type 0} (n : ℕ) → (n < 10 → P) → (10 ≤ n → P) → P
+pub one-or-more : {P : Type 0} (n : ℕ) → (n < 10 → P) → (10 ≤ n → P) → P
 one-or-more n one more = by-test (ltb n 10) n refl one more
 
+-- the definition, one digit at a time
 module _ (fuel n : ℕ) (rest : List ℕ) where
-  from-one : n < 10 → decimalFrom (suc fuel) n rest ≡ figure n ∷ rest
+  pub from-one : n < 10 → decimalFrom (suc fuel) n rest ≡ figure n ∷ rest
   unfolding decimalFrom
   from-one h = rw (lt-ltb n 10 h)
 
-  from-more : 10 ≤ n → decimalFrom (suc fuel) n rest ≡ decimalFrom fuel (n / 10) (figure (n % 10) ∷ rest)
+  pub from-more : 10 ≤ n → decimalFrom (suc fuel) n rest ≡ decimalFrom fuel (n / 10) (figure (n % 10) ∷ rest)
   unfolding decimalFrom
   from-more h = rw (le-ltb n 10 h)
 
-from-append : (fuel n : ℕ) (rest end : List ℕ) → decimalFrom fuel n (rest ++ end) ≡ decimalFrom fuel n rest ++ end
+pub from-append : (fuel n : ℕ) (rest end : List ℕ) → decimalFrom fuel n (rest ++ end) ≡ decimalFrom fuel n rest ++ end
 unfolding decimalFrom
 from-append zero n rest end = refl
 from-append (suc fuel) n rest end =

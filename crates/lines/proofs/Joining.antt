@@ -1,14 +1,14 @@
 -- Bytes put into a text: one after the other, and those of a slice in turn.
-use Prim.Native.Nat.{ℕ, suc, _+_, _≤_, _<_}
+use Prim.Native.Nat.{ℕ, _+_, _≤_, _<_}
 use native.Mathlib.Omega.{arith}
 use native.Mathlib.Numerals.{add-one}
 use native.Mathlib.Nat.{add-assoc}
 use mathlib.Core.Path.{_≡_, refl, sym, ap, _∙_}
-use mathlib.Core.List.{List, [], _∷_, _++_, append-assoc}
-use lib.ListN.{length, getD, take, drop, set, length-append, length-set, drop-of-length-le}
+use mathlib.Core.List.{List, [], _∷_, _++_}
+use lib.ListN.{length, getD, drop, set, length-append, length-set, drop-of-length-le}
 use lib.Seq.{sets-eq, drop-cons}
 use Rattle.words.specs.Bytes.{splice}
-use Rattle.words.proofs.Splice.{length-splice, splice-splice, splice-nil}
+use Rattle.words.proofs.Splice.{splice-splice, splice-nil}
 use Rattle.lines.specs.Text.{Put}
 
 -- ---- one part after another

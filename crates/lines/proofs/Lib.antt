@@ -1,4 +1,5 @@
 pub mod Digits
+pub mod Readback
 pub mod Joining
 pub mod Backward
 pub mod Ways

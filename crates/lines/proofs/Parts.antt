@@ -1,7 +1,7 @@
 -- The parts of a line, each put after the one before: they are the line, and there is room for it.
-use Prim.Native.Nat.{ℕ, _+_, _/_, _%_, _^_, _≤_, _<_}
+use Prim.Native.Nat.{ℕ, _+_, _/_, _%_, _^_, _≤_}
 use native.Mathlib.Omega.{arith}
-use mathlib.Core.Path.{_≡_, refl, sym, _∙_}
+use mathlib.Core.Path.{_≡_, sym}
 use mathlib.Core.Bool.{cond}
 use mathlib.Core.List.{List, [], _∷_, _++_, append-assoc}
 use lib.ListN.{length}
@@ -11,16 +11,26 @@ use Rattle.lines.specs.Text.{decimal, hex, Put}
 use Rattle.lines.specs.Lines.{field, placedWord, noneWord, endWord, refusedWord, heightField, placedFields, noneFields, isUnplaced, seatLine, endLine, refusedLine}
 use Rattle.lines.proofs.Joining.{put-put, put-same}
 
+-- a field that is a number, a float's bits, a height
+abbrev pub number : ℕ → List ℕ
+number n = field (decimal n)
+
+abbrev pub float : ℕ → List ℕ
+float x = field (hex x)
+
+abbrev pub tall : ℕ → ℕ → List ℕ
+tall kind x = field (heightField kind x)
+
 -- ---- put_number, put_bits
 pub field-put : {k : ℕ} {s t u xs : List ℕ} {at n m : ℕ} → at + k ≤ length s → 1 ≤ k → Put s at (32 ∷ []) t n → Put t n xs u m → Put s at (field xs) u m
 field-put room h p q = put-put p (omega arith) q
 
 -- ---- put_height
 module _ (kind bits : ℕ) {s t : List ℕ} {at n : ℕ} where
-  pub height-none : kind ≡ 0 → Put s at (field (45 ∷ [])) t n → Put s at (field (heightField kind bits)) t n
+  pub height-none : kind ≡ 0 → Put s at (field (45 ∷ [])) t n → Put s at (tall kind bits) t n
   height-none h p = rw (eq-eqb kind 0 h) p
 
-  pub height-some : (kind ≡ 0 → ⊥) → Put s at (field (hex bits)) t n → Put s at (field (heightField kind bits)) t n
+  pub height-some : (kind ≡ 0 → ⊥) → Put s at (float bits) t n → Put s at (tall kind bits) t n
   height-some h p = rw (ne-eqb kind 0 h) p
 
 pub ruleset fields = (field-put, height-none, height-some)
@@ -28,25 +38,25 @@ pub ruleset fields = (field-put, height-none, height-some)
 -- ---- put_polygon, put_point, put_counts
 module _ {s t u : List ℕ} {at n m : ℕ} where
   pub polygon-put : (a b : ℕ) → at + 22 ≤ length s
-      → Put s at (field (decimal a)) t n → n ≤ at + 11
-      → Put t n (field (decimal b)) u m
-      → Put s at (field (decimal a) ++ field (decimal b)) u m
+      → Put s at (number a) t n → n ≤ at + 11
+      → Put t n (number b) u m
+      → Put s at (number a ++ number b) u m
   polygon-put a b room p h q = put-put p (omega arith) q
 
   module _ {v : List ℕ} {k : ℕ} where
     pub point-put : (x y kind bits : ℕ) → at + 27 ≤ length s
-        → Put s at (field (hex x)) t n → n ≡ at + 9
-        → Put t n (field (hex y)) u m → m ≡ n + 9
-        → Put u m (field (heightField kind bits)) v k
-        → Put s at (field (hex x) ++ field (hex y) ++ field (heightField kind bits)) v k
+        → Put s at (float x) t n → n ≡ at + 9
+        → Put t n (float y) u m → m ≡ n + 9
+        → Put u m (tall kind bits) v k
+        → Put s at (float x ++ float y ++ tall kind bits) v k
     point-put x y kind bits room p h q l z = put-put (put-put p (omega arith) q) (omega arith) z
 
     pub counts-put : (a b c d : ℕ) {w : List ℕ} {j : ℕ} → at + 44 ≤ length s
-        → Put s at (field (decimal a)) t n → n ≤ at + 11
-        → Put t n (field (decimal b)) u m → m ≤ n + 11
-        → Put u m (field (decimal c)) v k → k ≤ m + 11
-        → Put v k (field (decimal d)) w j
-        → Put s at (field (decimal a) ++ field (decimal b) ++ field (decimal c) ++ field (decimal d)) w j
+        → Put s at (number a) t n → n ≤ at + 11
+        → Put t n (number b) u m → m ≤ n + 11
+        → Put u m (number c) v k → k ≤ m + 11
+        → Put v k (number d) w j
+        → Put s at (number a ++ number b ++ number c ++ number d) w j
     counts-put a b c d room p h q l r i z =
         put-put (put-put (put-put p (omega arith) q) (omega arith) r) (omega arith) z
 
@@ -55,31 +65,31 @@ regroup : (w a b c d e f g h i : List ℕ) → w ++ (a ++ b) ++ (c ++ d ++ e) ++
 regroup w a b c d e f g h i = simp append-assoc
 
 module _ (r : Row) {s t u : List ℕ} {at n m : ℕ} (room : at + 110 ≤ length s) where
-  pub none-put : Put s at (field noneWord) t n → Put t n (field (decimal (r .tried))) u m → Put s at (noneFields r) u m
+  pub none-put : Put s at (field noneWord) t n → Put t n (number (r .tried)) u m → Put s at (noneFields r) u m
   unfolding noneFields
   none-put p q = put-put p (omega arith) q
 
   pub placed-put : {v w : List ℕ} {k j : ℕ}
       → Put s at (field placedWord) t n
-      → Put t n (field (decimal (r .polygon / 2 ^ 24)) ++ field (decimal (r .polygon % 2 ^ 24))) u m → m ≤ n + 22
-      → Put u m (field (hex (r .x)) ++ field (hex (r .y)) ++ field (heightField (r .kind) (r .height))) v k → k ≤ m + 27
-      → Put v k (field (decimal (r .step)) ++ field (decimal (r .sample)) ++ field (decimal (r .tried)) ++ field (decimal (r .candidates))) w j
+      → Put t n (number (r .polygon / 2 ^ 24) ++ number (r .polygon % 2 ^ 24)) u m → m ≤ n + 22
+      → Put u m (float (r .x) ++ float (r .y) ++ tall (r .kind) (r .height)) v k → k ≤ m + 27
+      → Put v k (number (r .step) ++ number (r .sample) ++ number (r .tried) ++ number (r .candidates)) w j
       → Put s at (placedFields r) w j
   unfolding placedFields
   placed-put p q h c l z =
-      let e = regroup
+      put-same
+      (regroup
       (field placedWord)
-      (field (decimal (r .polygon / 2 ^ 24)))
-      (field (decimal (r .polygon % 2 ^ 24)))
-      (field (hex (r .x)))
-      (field (hex (r .y)))
-      (field (heightField (r .kind) (r .height)))
-      (field (decimal (r .step)))
-      (field (decimal (r .sample)))
-      (field (decimal (r .tried)))
-      (field (decimal (r .candidates)))
-      in
-      put-same e (put-put (put-put (put-put p (omega arith) q) (omega arith) c) (omega arith) z)
+      (number (r .polygon / 2 ^ 24))
+      (number (r .polygon % 2 ^ 24))
+      (float (r .x))
+      (float (r .y))
+      (tall (r .kind) (r .height))
+      (number (r .step))
+      (number (r .sample))
+      (number (r .tried))
+      (number (r .candidates)))
+      (put-put (put-put (put-put p (omega arith) q) (omega arith) c) (omega arith) z)
 
 module _ (r : Row) {s t : List ℕ} {at n : ℕ} where
   pub fields-none : r .polygon ≡ 0xFFFF_FFFF → Put s at (noneFields r) t n → Put s at (cond (isUnplaced r) (noneFields r) (placedFields r)) t n
@@ -104,7 +114,7 @@ module _ {s t u v : List ℕ} {n m k : ℕ} where
 
   pub refused-put : (a : ℕ) → 128 ≤ length s
       → Put s 0 refusedWord t n
-      → Put t n (field (decimal a)) u m → m ≤ n + 11
+      → Put t n (number a) u m → m ≤ n + 11
       → Put u m (10 ∷ []) v k
       → Put s 0 (refusedLine a) v k
   unfolding refusedLine
@@ -114,8 +124,8 @@ module _ {s t u v : List ℕ} {n m k : ℕ} where
 
   pub end-put : (a b : ℕ) {w : List ℕ} {j : ℕ} → 128 ≤ length s
       → Put s 0 endWord t n
-      → Put t n (field (decimal a)) u m → m ≤ n + 11
-      → Put u m (field (decimal b)) v k → k ≤ m + 11
+      → Put t n (number a) u m → m ≤ n + 11
+      → Put u m (number b) v k → k ≤ m + 11
       → Put v k (10 ∷ []) w j
       → Put s 0 (endLine a b) w j
   unfolding endLine

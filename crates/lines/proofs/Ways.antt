@@ -1,14 +1,14 @@
 -- What each way through a function of this crate shows: from what its calls returned and its tests found to what its contract says.
 use Prim.Native.Nat.{ℕ, _+_, _≤_, _<_}
-use mathlib.Core.Path.{_≡_, refl, sym, _∙_}
-use mathlib.Core.Bool.{Bool, true, false}
-use mathlib.Core.List.{List, [], _∷_, _++_}
+use mathlib.Core.Path.{_≡_}
+use mathlib.Core.Bool.{false}
+use mathlib.Core.List.{List}
 use lib.Dec.{leb}
 use lib.ListN.{length}
 use native.Mathlib.Omega.{arith}
 use borrow.Author.Tests.{lt-ltb, le-ltb, le-leb, lt-leb}
 use Rattle.words.specs.Bytes.{u32At}
-use Rattle.lines.specs.Text.{glyph, Put}
+use Rattle.lines.specs.Text.{glyph}
 use Rattle.lines.specs.Input.{question21}
 
 -- ---- glyph
@@ -22,19 +22,18 @@ pub ruleset glyphs = (glyph-low, glyph-high)
 
 -- ---- input_allowed
 module _ (s : List ℕ) where
-  pub input-long : 65536 < length s → false ≡ question21 s
+  pub input-long : {k : ℕ} → 65536 ≤ k → k < length s → false ≡ question21 s
   unfolding question21
-  input-long h = rw (lt-leb (length s) 65536 h)
+  input-long l h = rw (lt-leb (length s) 65536 (omega arith))
 
-  module _ (l : length s ≤ 65536) where
-    pub input-short : length s < 4 → false ≡ question21 s
-    unfolding question21
-    input-short h = rw (le-leb (length s) 65536 l, lt-leb 4 (length s) h)
+  pub input-short : length s < 4 → false ≡ question21 s
+  unfolding question21
+  input-short h = rw (le-leb (length s) 65536 (omega arith), lt-leb 4 (length s) h)
 
-    pub input-sized : {n : ℕ} → 4 ≤ length s → n ≡ u32At s 0 → leb (n + 36) (length s) ≡ question21 s
-    unfolding question21
-    input-sized {n} h e =
-        let p : 4 + u32At s 0 + 32 ≡ n + 36 = omega arith in
-        rw (le-leb (length s) 65536 l, le-leb 4 (length s) h, p)
+  pub input-sized : {n : ℕ} → length s ≤ 65536 → 4 ≤ length s → n ≡ u32At s 0 → leb (n + 36) (length s) ≡ question21 s
+  unfolding question21
+  input-sized {n} l h e =
+      let p : 4 + u32At s 0 + 32 ≡ n + 36 = omega arith in
+      rw (le-leb (length s) 65536 l, le-leb 4 (length s) h, p)
 
 pub ruleset inputs = (input-long, input-short, input-sized)

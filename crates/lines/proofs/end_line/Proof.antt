@@ -1,4 +1,4 @@
--- `end_line` meets its contract.
+-- `end_line` meets its contract. The two parts of its clause are searched for apart: together they take too many steps.
 use borrow.Author.Needs.{needs}
 use Rattle.lines.proofs.Parts.{wholes}
 use Rattle.lines.proofs.end_line.Statement.{statement}

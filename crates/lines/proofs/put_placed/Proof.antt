@@ -1,4 +1,4 @@
--- `put_placed` meets its contract.
+-- `put_placed` meets its contract. The two parts of its clause are searched for apart: together they take too many steps.
 use borrow.Author.Needs.{needs}
 use Rattle.lines.proofs.Parts.{places}
 use Rattle.lines.proofs.put_placed.Statement.{statement}

@@ -1,4 +1,4 @@
--- `row_at` meets its contract.
+-- `row_at` meets its contract. Each number of the row is what one call returned.
 use Rattle.lines.specs.Lines.{rowAt}
 use borrow.Author.Needs.{needs}
 use Rattle.lines.proofs.row_at.Statement.{statement}
