@@ -1,10 +1,12 @@
 // The lines of `seatlist` as bytes (document 01, section 7), and question 21.
 ghost use mathlib.Core.Path.{_≡_};
-ghost use Prim.Native.Nat.{_+_, _*_, _≤_, _<_};
+ghost use mathlib.Core.Bool.{cond};
+ghost use mathlib.Core.List.{_++_};
+ghost use Prim.Native.Nat.{_+_, _*_, _/_, _%_, _^_, _≤_, _<_};
 ghost use lib.ListN.{length};
 ghost use Rattle.lines.specs.Text.{decimal, hex, Put};
 ghost use Rattle.lines.specs.Text.{glyph as Text·glyph};
-ghost use Rattle.lines.specs.Lines.{rowAt, placedFields, noneFields, heightField, field, seatLine, endLine, refusedLine};
+ghost use Rattle.lines.specs.Lines.{rowAt, placedFields, noneFields, heightField, field, isUnplaced, seatLine, endLine, refusedLine};
 ghost use Rattle.lines.specs.Input.{question21};
 use words::u32_at;
 
@@ -50,8 +52,8 @@ fn digits_of(n: u32) -> usize
     ensures { λ r. ⌜ (r ≡ length (decimal n)) × ((1 ≤ r) × (r ≤ 10)) ⌝ }
 {
     let mut count: usize = 1;
-    let mut left = n / 10;
-    'digits: while left > 0 {
+    let mut left = n;
+    'digits: while left >= 10 {
         left /= 10;
         count += 1;
     }
@@ -148,20 +150,51 @@ fn row_at(records: &[u8], i: usize) -> Row
     }
 }
 
+// The deck, and the polygon in its deck.
+fn put_polygon(text: &mut [u8], at: usize, polygon: u32) -> usize
+    requires { ⌜ at + 22 ≤ length (now text) ⌝ }
+    ensures { λ r. ⌜ Put (now (text .entry)) at (field (decimal (polygon / 2 ^ 24)) ++ field (decimal (polygon % 2 ^ 24))) (now (text .exit)) r × (r ≤ at + 22) ⌝ }
+{
+    let deck = put_number(text, at, polygon / 16777216);
+    put_number(text, deck, polygon % 16777216)
+}
+
+// x, y and the height.
+fn put_point(text: &mut [u8], at: usize, x: u32, y: u32, kind: u32, bits: u32) -> usize
+    requires { ⌜ at + 27 ≤ length (now text) ⌝ }
+    ensures { λ r. ⌜ Put (now (text .entry)) at (field (hex x) ++ field (hex y) ++ field (heightField kind bits)) (now (text .exit)) r × (r ≤ at + 27) ⌝ }
+{
+    let first = put_bits(text, at, x);
+    let second = put_bits(text, first, y);
+    put_height(text, second, kind, bits)
+}
+
+// Step, sample, tried and candidates.
+fn put_counts(
+    text: &mut [u8],
+    at: usize,
+    step: u32,
+    sample: u32,
+    tried: u32,
+    candidates: u32,
+) -> usize
+    requires { ⌜ at + 44 ≤ length (now text) ⌝ }
+    ensures { λ r. ⌜ Put (now (text .entry)) at (field (decimal step) ++ field (decimal sample) ++ field (decimal tried) ++ field (decimal candidates)) (now (text .exit)) r × (r ≤ at + 44) ⌝ }
+{
+    let first = put_number(text, at, step);
+    let second = put_number(text, first, sample);
+    let third = put_number(text, second, tried);
+    put_number(text, third, candidates)
+}
+
 fn put_placed(text: &mut [u8], at: usize, r: Row) -> usize
     requires { ⌜ at + 110 ≤ length (now text) ⌝ }
     ensures { λ n. ⌜ Put (now (text .entry)) at (placedFields r) (now (text .exit)) n × (n ≤ at + 110) ⌝ }
 {
     let word = put_bytes(text, at, b" placed");
-    let deck = put_number(text, word, r.polygon / 16777216);
-    let polygon = put_number(text, deck, r.polygon % 16777216);
-    let x = put_bits(text, polygon, r.x);
-    let y = put_bits(text, x, r.y);
-    let height = put_height(text, y, r.kind, r.height);
-    let step = put_number(text, height, r.step);
-    let sample = put_number(text, step, r.sample);
-    let tried = put_number(text, sample, r.tried);
-    put_number(text, tried, r.candidates)
+    let polygon = put_polygon(text, word, r.polygon);
+    let point = put_point(text, polygon, r.x, r.y, r.kind, r.height);
+    put_counts(text, point, r.step, r.sample, r.tried, r.candidates)
 }
 
 fn put_none(text: &mut [u8], at: usize, r: Row) -> usize
@@ -172,20 +205,32 @@ fn put_none(text: &mut [u8], at: usize, r: Row) -> usize
     put_number(text, word, r.tried)
 }
 
+fn put_fields(text: &mut [u8], at: usize, r: Row) -> usize
+    requires { ⌜ at + 110 ≤ length (now text) ⌝ }
+    ensures { λ n. ⌜ Put (now (text .entry)) at (cond (isUnplaced r) (noneFields r) (placedFields r)) (now (text .exit)) n × (n ≤ at + 110) ⌝ }
+{
+    if r.polygon == 0xFFFF_FFFF {
+        put_none(text, at, r)
+    } else {
+        put_placed(text, at, r)
+    }
+}
+
+fn put_seat(text: &mut [u8], i: u32, r: Row) -> usize
+    requires { ⌜ 128 ≤ length (now text) ⌝ }
+    ensures { λ n. ⌜ Put (now (text .entry)) 0 (seatLine i r) (now (text .exit)) n × (n ≤ 128) ⌝ }
+{
+    let number = put_decimal(text, 0, i);
+    let end = put_fields(text, number, r);
+    put_bytes(text, end, b"\n")
+}
+
 // The line of seat i from its record, at the start of text; answers its length.
 pub fn seat_line(records: &[u8], i: u32, text: &mut [u8]) -> usize
     requires { ⌜ (36 * i + 36 ≤ length (now records)) × (128 ≤ length (now text)) ⌝ }
     ensures { λ n. ⌜ Put (now (text .entry)) 0 (seatLine i (rowAt (now (records .entry)) i)) (now (text .exit)) n × (n ≤ 128) ⌝ }
 {
-    let r = row_at(records, i as usize);
-    let at = put_decimal(text, 0, i);
-    if r.polygon == 0xFFFF_FFFF {
-        let end = put_none(text, at, r);
-        put_bytes(text, end, b"\n")
-    } else {
-        let end = put_placed(text, at, r);
-        put_bytes(text, end, b"\n")
-    }
+    put_seat(text, i, row_at(records, i as usize))
 }
 
 // The last line: how many seats are placed, and how many are not.
