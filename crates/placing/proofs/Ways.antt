@@ -80,14 +80,21 @@ unfolding sampleOn
 sample-is {file} p c on eo ea er eq = eq ∙ rw (ea, eo, er, deck-is file (on .there) (on .is))
 
 -- ---- `take_passing`
--- the polygons below k are taken in, at the sample q of a deck of the file, which is the place `place`
-pub record Taking (file blocked : List ℕ) (seat : Seat) (b : Blocks) (from : Candidate) (q place : Vec2) (t tally : Tally) (k : ℕ) : Type 0 where
+-- q is the sample of `from`, on the deck at b, and `place` is where it lies
+pub record AtSample (file : List ℕ) (seat : Seat) (b : Blocks) (from : Candidate) (q place : Vec2) : Type 0 where
   pub on : OnPassedDeck file b from
   pub seat-within : PointWithin 1000000 (seat .place)
   pub sampled : q ≡ sampleOn (decode file) (seat .place) from
   pub moved : place ≡ addOf q (deckAt file b .offset)
-  pub same : tallyOf (seenBy file blocked seat) t (passing (seenBy file blocked seat) (from .step) (from .deck) (from .sample) (from .polygon) (b .polygons - from .polygon))
-      ≡ tallyOf (seenBy file blocked seat) tally (passing (seenBy file blocked seat) (from .step) (from .deck) (from .sample) k (b .polygons - k))
+
+-- the candidates there, from polygon k on
+abbrev pub passingFrom : List ℕ → List ℕ → Seat → Blocks → Candidate → ℕ → List Candidate
+passingFrom file blocked seat b from k = passing (seenBy file blocked seat) (from .step) (from .deck) (from .sample) k (b .polygons - k)
+
+-- those of the polygons below k are taken in
+pub record Taking (file blocked : List ℕ) (seat : Seat) (b : Blocks) (from : Candidate) (q place : Vec2) (t tally : Tally) (k : ℕ) : Type 0 where
+  pub at-sample : AtSample file seat b from q place
+  pub same : tallyOf (seenBy file blocked seat) t (passingFrom file blocked seat b from (from .polygon)) ≡ tallyOf (seenBy file blocked seat) tally (passingFrom file blocked seat b from k)
   pub tried-within : tally .tried ≤ 38656 * from .step + 151 * (from .deck + 1)
   pub candidates-within : tally .candidates + (b .polygons - k) ≤ 16777215 * from .deck + b .polygons
   pub choice-within : ChoiceWithin (tally .choice)
@@ -98,10 +105,7 @@ pub taking-all : {file : List ℕ} (blocked : List ℕ) {seat : Seat} {b : Block
     → Taking file blocked seat b from q place t t (from .polygon)
 taking-all blocked on within after sampled offset moved =
     record {
-      on = on;
-      seat-within = within;
-      sampled = sampled;
-      moved = rw offset at moved;
+      at-sample = record { on = on; seat-within = within; sampled = sampled; moved = rw offset at moved };
       same = refl;
       tried-within = after .tried-within;
       candidates-within = omega (arith, after .candidates-within);
@@ -118,11 +122,13 @@ taken-within wish (Chosen b at g) c place h p q = go (nearer wish h g)
 
 module _ {file blocked : List ℕ} {seat : Seat} {b : Blocks} {from : Candidate} {q place : Vec2} {t tally : Tally} {k : ℕ}
     (h : Taking file blocked seat b from q place t tally k) where
-  few-polygons : b .polygons ≤ 16777215
-  few-polygons = sound (h .on .passed) .few-polygons
+  on : OnPassedDeck file b from
+  on = h .at-sample .on
 
-  pub taking-none : b .polygons ≤ k
-      → tally ≡ tallyOf (seenBy file blocked seat) t (passing (seenBy file blocked seat) (from .step) (from .deck) (from .sample) (from .polygon) (b .polygons - from .polygon))
+  few-polygons : b .polygons ≤ 16777215
+  few-polygons = sound (on .passed) .few-polygons
+
+  pub taking-none : b .polygons ≤ k → tally ≡ tallyOf (seenBy file blocked seat) t (passingFrom file blocked seat b from (from .polygon))
   unfolding tallyOf
   taking-none l = sym (h .same ∙ rw (passing-none (seenBy file blocked seat) (from .step) (from .deck) (from .sample) k (b .polygons) l))
 
@@ -136,27 +142,24 @@ module _ {file blocked : List ℕ} {seat : Seat} {b : Blocks} {from : Candidate}
 
     on-here : OnPassedDeck file b here
     unfolding here
-    on-here = record { passed = h .on .passed; there = h .on .there; is = h .on .is; step = h .on .step; sample = h .on .sample }
+    on-here = record { passed = on .passed; there = on .there; is = on .is; step = on .step; sample = on .sample }
 
     pub polygon-fits : Fits w64 (k + 1)
     polygon-fits = record { fits = omega (arith, few-polygons) }
 
     pub taking-room : tally .candidates < 4294967296
-    taking-room = omega (arith, h .candidates-within, few-polygons, h .on .there, decks-range file (h .on .passed .passed) .1)
+    taking-room = omega (arith, h .candidates-within, few-polygons, on .there, decks-range file (on .passed .passed) .1)
 
     module _ {r : Bool} (asked : r ≡ passesAt (deckAt file b) q k) where
       passes : r ≡ seenBy file blocked seat .passes here
       unfolding here sampleOn
-      passes = asked ∙ ap (λ (p : Vec2). passesAt (deckAt file b) p k) (h .sampled) ∙ seen-passes file blocked seat here on-here
+      passes = asked ∙ ap (λ (p : Vec2). passesAt (deckAt file b) p k) (h .at-sample .sampled) ∙ seen-passes file blocked seat here on-here
 
       pub taking-no : r ≡ false → Taking file blocked seat b from q place t tally (k + 1)
       unfolding here
       taking-no n =
           record {
-            on = h .on;
-            seat-within = h .seat-within;
-            sampled = h .sampled;
-            moved = h .moved;
+            at-sample = h .at-sample;
             same = h .same ∙ rw (passing-more-no (seenBy file blocked seat) (from .step) (from .deck) (from .sample) k (b .polygons) l (sym passes ∙ n));
             tried-within = h .tried-within;
             candidates-within = omega (arith, h .candidates-within);
@@ -167,7 +170,7 @@ module _ {file blocked : List ℕ} {seat : Seat} {b : Blocks} {from : Candidate}
           (taken : next ≡ takeWith (seat .wish) tally (candidate (from .step) (from .deck) (from .sample) k) place g) where
         at-place : place ≡ seenBy file blocked seat .place here
         unfolding here sampleOn
-        at-place = h .moved ∙ ap (λ (p : Vec2). addOf p (deckAt file b .offset)) (h .sampled) ∙ seen-place file blocked seat here on-here
+        at-place = h .at-sample .moved ∙ ap (λ (p : Vec2). addOf p (deckAt file b .offset)) (h .at-sample .sampled) ∙ seen-place file blocked seat here on-here
 
         at-height : g ≡ seenBy file blocked seat .height here
         unfolding here
@@ -182,16 +185,13 @@ module _ {file blocked : List ℕ} {seat : Seat} {b : Blocks} {from : Candidate}
         taking-yes y =
             subst⁻¹ (λ (u : Tally). Taking file blocked seat b from q place t u (k + 1)) next-is
             (record {
-              on = h .on;
-              seat-within = h .seat-within;
-              sampled = h .sampled;
-              moved = h .moved;
+              at-sample = h .at-sample;
               same = h .same ∙ ap (tallyOf (seenBy file blocked seat) tally) (passing-more-yes (seenBy file blocked seat) (from .step) (from .deck) (from .sample) k (b .polygons) l (sym passes ∙ y));
               tried-within = h .tried-within;
               candidates-within = omega (arith, h .candidates-within);
               choice-within =
                   taken-within (seat .wish) (tally .choice) here (seenBy file blocked seat .place here) (seenBy file blocked seat .height here) (h .choice-within)
-                  (seen-within file blocked seat here on-here (h .seat-within) l);
+                  (seen-within file blocked seat here on-here (h .at-sample .seat-within) l);
             })
 
 pub ruleset taking = (taking-all, taking-none, taking-within, polygon-fits, taking-room, taking-no, taking-yes)
