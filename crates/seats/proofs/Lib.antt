@@ -3,3 +3,4 @@ pub mod RecordsBack
 pub mod SurveyTheorem
 pub mod Examples
 pub mod Ways
+pub mod Codes
