@@ -1,0 +1,4 @@
+pub mod Corners
+pub mod EdgeLoop
+pub mod HeightLoop
+pub mod TurnLoop

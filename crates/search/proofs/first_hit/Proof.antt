@@ -1,0 +1,86 @@
+-- `first_hit` meets its contract. The outer loop's invariant: the deck's turn is that of the samples that are left. The inner's: the sample's hit is that of
+-- the polygons that are left.
+use Prim.Native.Nat.{_-_, _≤_, _<_}
+use borrow.Author.Needs.{needs}
+use Rattle.ship.specs.Decode.{deckAt}
+use Rattle.search.proofs.TurnLoop.{SamplesLeft, PolygonsLeft, turns}
+use Rattle.search.proofs.first_hit.Statement.{statement}
+use Rattle.search.proofs.first_hit.Tie as tie
+
+abbrev Inv-polygons : tie.InvT-polygons
+Inv-polygons file b t p reach s polygons samples i q k₀ k = (k ≤ polygons) × PolygonsLeft (deckAt file b) p reach s i polygons k
+
+abbrev μ-polygons : tie.MeasureT-polygons
+μ-polygons file b t p reach s polygons samples i q k₀ k = polygons - k
+
+abbrev Inv-samples : tie.InvT-samples
+Inv-samples file b t p reach s polygons samples i₀ i = (i < samples) × SamplesLeft (deckAt file b) p reach s i
+
+abbrev μ-samples : tie.MeasureT-samples
+μ-samples file b t p reach s polygons samples i₀ i = samples - i
+
+mul-samples : tie.Need-mul-samples Inv-polygons μ-polygons Inv-samples μ-samples
+mul-samples c = search (turns, needs)
+
+add-samples : tie.Need-add-samples Inv-polygons μ-polygons Inv-samples μ-samples
+add-samples c = search (turns, needs)
+
+samples-holds : tie.Need-samples-holds Inv-polygons μ-polygons Inv-samples μ-samples
+samples-holds c = search (turns, needs)
+
+sample-requires : tie.Need-sample-requires Inv-polygons μ-polygons Inv-samples μ-samples
+sample-requires c κs = search (turns, needs)
+
+polygons-holds : tie.Need-polygons-holds Inv-polygons μ-polygons Inv-samples μ-samples
+polygons-holds c = search (turns, needs)
+
+point-in-polygon-requires :
+    tie.Need-point-in-polygon-requires Inv-polygons μ-polygons Inv-samples μ-samples
+point-in-polygon-requires c κs = search (turns, needs)
+
+add-k : tie.Need-add-k Inv-polygons μ-polygons Inv-samples μ-samples
+add-k c = search (turns, needs)
+
+polygons-less : tie.Need-polygons-less Inv-polygons μ-polygons Inv-samples μ-samples
+polygons-less c = search (turns, needs)
+
+polygons-again : tie.Need-polygons-again Inv-polygons μ-polygons Inv-samples μ-samples
+polygons-again c = search (turns, needs)
+
+add-i : tie.Need-add-i Inv-polygons μ-polygons Inv-samples μ-samples
+add-i c = search (turns, needs)
+
+samples-less : tie.Need-samples-less Inv-polygons μ-polygons Inv-samples μ-samples
+samples-less c = search (turns, needs)
+
+samples-again : tie.Need-samples-again Inv-polygons μ-polygons Inv-samples μ-samples
+samples-again c = search (turns, needs)
+
+returns : tie.Need-returns Inv-polygons μ-polygons Inv-samples μ-samples
+returns c = search (turns, needs)
+
+returns-2 : tie.Need-returns-2 Inv-polygons μ-polygons Inv-samples μ-samples
+returns-2 c = search (turns, needs)
+
+pub first-hit-spec : {M : Type 1} → statement M
+first-hit-spec =
+    tie.close
+    (tie.spec
+    Inv-polygons
+    μ-polygons
+    Inv-samples
+    μ-samples
+    mul-samples
+    add-samples
+    samples-holds
+    sample-requires
+    polygons-holds
+    point-in-polygon-requires
+    add-k
+    polygons-less
+    polygons-again
+    add-i
+    samples-less
+    samples-again
+    returns
+    returns-2)
