@@ -1,0 +1,4 @@
+pub mod Tallies
+pub mod Seen
+pub mod Ways
+pub mod Numbers
