@@ -61,7 +61,7 @@ module _ (file blocked : List ℕ) (seat : Seat) where
       place-small =
           place-within (seat .place) (deckOf (decode file) (c .deck) .offset) (decode file .reach) (c .step) (c .sample) (on .step) (on .sample)
           (decode-reach file (on .passed .passed)) within
-          (subst (λ (k : Deck). PointWithin 1000000 (k .offset)) (sym (deck-is file (on .there) (on .is))) (offset-within file b (on .passed)))
+          (subst (λ (k : Deck). PointWithin 1000000 (k .offset)) (sym (deck-is file (on .there) (on .is))) (offset-within (on .passed)))
 
       height-small : HeightWithin (2 ^ 121) (seenBy file blocked seat .height c)
       unfolding heightOn
@@ -72,7 +72,7 @@ module _ (file blocked : List ℕ) (seat : Seat) where
           go (h ∷ rest) =
               heights-within (seenBy file blocked seat .place c) (polygonCorners (deckAt file b) (c .polygon))
               (record { x = widen (omega arith) (place-small .x); y = widen (omega arith) (place-small .y) })
-              (corners-within file b (on .passed) (c .polygon)) (polygon-few file b (on .passed) (c .polygon))
+              (corners-within (on .passed) (c .polygon)) (polygon-few (on .passed) (c .polygon))
 
       pub seen-within : c .polygon < b .polygons → CandidateWithin c (seenBy file blocked seat .place c) (seenBy file blocked seat .height c)
       seen-within l =

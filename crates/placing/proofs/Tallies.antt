@@ -1,18 +1,16 @@
 -- What the candidates of a step come to, taken in one after the other, whatever the seat sees.
-use Prim.Native.Nat.{ℕ, suc, _+_, _*_, _-_, _≤_, _<_}
+use Prim.Native.Nat.{ℕ, suc, _+_, _-_}
 use mathlib.Core.Path.{_≡_, refl, sym, ap, _∙_}
 use mathlib.Core.Bool.{Bool, true, false, cond}
 use mathlib.Core.List.{List, [], _∷_, _++_}
 use native.Mathlib.Omega.{arith}
-use native.Mathlib.Numerals.{add-one}
 use native.Mathlib.Nat.{add-assoc}
 use lib.ListN.{length}
 use Rattle.survey.specs.declared.Candidate.{Candidate}
 use Rattle.survey.specs.View.{View}
-use Rattle.survey.specs.Search.{triedOf, turn, given, candidatesFrom, candidates, triedFrom, triedIn, triedBefore, better, bestOf, Found, Nowhere, InStep, firstStep}
-use Rattle.survey.proofs.Loops.{candidatesFrom-more-yes, triedFrom-more-yes}
+use Rattle.survey.specs.Search.{triedOf, turn, given, candidates, triedIn, better, bestOf}
 use Rattle.placing.specs.declared.Choice.{Choice}
-use Rattle.placing.specs.declared.Choice.the-variants.{NoneYet, Chosen}
+use Rattle.placing.specs.declared.Choice.the-variants.{Chosen}
 use Rattle.placing.specs.declared.Tally.{Tally}
 use Rattle.placing.specs.Tally.{takeWith, tallyOf, startOf, moreTried, turnTally, stepTally}
 

@@ -28,7 +28,7 @@ use Rattle.survey.specs.declared.Hit.the-variants.{At, Missed}
 use Rattle.survey.specs.declared.Wish.{Wish}
 use Rattle.survey.specs.Wishes.{isOpen, nearer}
 use Rattle.survey.specs.View.{View, candidate}
-use Rattle.survey.specs.Search.{triedOf, turn, passing, given, candidatesFrom, candidates, triedFrom, triedIn, triedBefore, bestOf, Found, Nowhere, InStep, firstStep}
+use Rattle.survey.specs.Search.{triedOf, turn, passing, given, candidatesFrom, candidates, triedFrom, triedIn, triedBefore, firstStep}
 use Rattle.survey.proofs.Loops.{passing-more-yes, passing-more-no, passing-none, candidatesFrom-more-yes, candidatesFrom-more-no, candidatesFrom-none, triedFrom-more-yes, triedFrom-more-no, triedFrom-none, firstStep-more-yes, firstStep-more-no, firstStep-none, hit-sample, given-from}
 use Rattle.search.specs.OnDeck.{passesAt, deckTurn, heightOn}
 use Rattle.placing.specs.declared.Seat.{Seat}
@@ -80,13 +80,33 @@ unfolding sampleOn
 sample-is {file} p c on eo ea er eq = eq ∙ rw (ea, eo, er, deck-is file (on .there) (on .is))
 
 -- ---- `take_passing`
--- the polygons below k are taken in
-pub record Taking (file blocked : List ℕ) (seat : Seat) (b : Blocks) (from : Candidate) (t tally : Tally) (k : ℕ) : Type 0 where
+-- the polygons below k are taken in, at the sample q of a deck of the file, which is the place `place`
+pub record Taking (file blocked : List ℕ) (seat : Seat) (b : Blocks) (from : Candidate) (q place : Vec2) (t tally : Tally) (k : ℕ) : Type 0 where
+  pub on : OnPassedDeck file b from
+  pub seat-within : PointWithin 1000000 (seat .place)
+  pub sampled : q ≡ sampleOn (decode file) (seat .place) from
+  pub moved : place ≡ addOf q (deckAt file b .offset)
   pub same : tallyOf (seenBy file blocked seat) t (passing (seenBy file blocked seat) (from .step) (from .deck) (from .sample) (from .polygon) (b .polygons - from .polygon))
       ≡ tallyOf (seenBy file blocked seat) tally (passing (seenBy file blocked seat) (from .step) (from .deck) (from .sample) k (b .polygons - k))
   pub tried-within : tally .tried ≤ 38656 * from .step + 151 * (from .deck + 1)
   pub candidates-within : tally .candidates + (b .polygons - k) ≤ 16777215 * from .deck + b .polygons
   pub choice-within : ChoiceWithin (tally .choice)
+
+pub taking-all : {file : List ℕ} (blocked : List ℕ) {seat : Seat} {b : Blocks} {from : Candidate} {q o place : Vec2} {t : Tally}
+    → OnPassedDeck file b from → PointWithin 1000000 (seat .place) → AfterSamples (from .step) (from .deck) t
+    → q ≡ sampleOn (decode file) (seat .place) from → o ≡ deckAt file b .offset → place ≡ addOf q o
+    → Taking file blocked seat b from q place t t (from .polygon)
+taking-all blocked on within after sampled offset moved =
+    record {
+      on = on;
+      seat-within = within;
+      sampled = sampled;
+      moved = rw offset at moved;
+      same = refl;
+      tried-within = after .tried-within;
+      candidates-within = omega (arith, after .candidates-within);
+      choice-within = after .choice-within;
+    }
 
 taken-within : (wish : Wish) (choice : Choice) (c : Candidate) (place : Vec2) (h : Height) → ChoiceWithin choice → CandidateWithin c place h → ChoiceWithin (chooseWith wish choice c place h)
 taken-within wish NoneYet c place h p q = q
@@ -96,12 +116,11 @@ taken-within wish (Chosen b at g) c place h p q = go (nearer wish h g)
     go true = q
     go false = p
 
-module _ {file : List ℕ} (blocked : List ℕ) (seat : Seat) {b : Blocks} {from : Candidate} {t : Tally} (on : OnPassedDeck file b from) where
-  pub taking-all : AfterSamples (from .step) (from .deck) t → Taking file blocked seat b from t t (from .polygon)
-  taking-all w = record { same = refl; tried-within = w .tried-within; candidates-within = omega (arith, w .candidates-within); choice-within = w .choice-within }
+module _ {file blocked : List ℕ} {seat : Seat} {b : Blocks} {from : Candidate} {q place : Vec2} {t tally : Tally} {k : ℕ}
+    (h : Taking file blocked seat b from q place t tally k) where
+  few-polygons : b .polygons ≤ 16777215
+  few-polygons = sound (h .on .passed) .few-polygons
 
-module _ {file blocked : List ℕ} {seat : Seat} {b : Blocks} {from : Candidate} {t tally : Tally} {k : ℕ} (on : OnPassedDeck file b from)
-    (h : Taking file blocked seat b from t tally k) where
   pub taking-none : b .polygons ≤ k
       → tally ≡ tallyOf (seenBy file blocked seat) t (passing (seenBy file blocked seat) (from .step) (from .deck) (from .sample) (from .polygon) (b .polygons - from .polygon))
   unfolding tallyOf
@@ -109,43 +128,46 @@ module _ {file blocked : List ℕ} {seat : Seat} {b : Blocks} {from : Candidate}
 
   pub taking-within : b .polygons ≤ k → AfterDecks (from .step) (from .deck + 1) tally
   taking-within l =
-      record {
-        tried-within = h .tried-within;
-        candidates-within = omega (arith, h .candidates-within, sound (on .passed) .few-polygons);
-        choice-within = h .choice-within;
-      }
+      record { tried-within = h .tried-within; candidates-within = omega (arith, h .candidates-within, few-polygons); choice-within = h .choice-within }
 
   module _ (l : k < b .polygons) where
+    here : Candidate
+    here = candidate (from .step) (from .deck) (from .sample) k
+
+    on-here : OnPassedDeck file b here
+    unfolding here
+    on-here = record { passed = h .on .passed; there = h .on .there; is = h .on .is; step = h .on .step; sample = h .on .sample }
+
+    pub polygon-fits : Fits w64 (k + 1)
+    polygon-fits = record { fits = omega (arith, few-polygons) }
+
     pub taking-room : tally .candidates < 4294967296
-    taking-room = omega (arith, h .candidates-within, sound (on .passed) .few-polygons, on .there, decks-range file (on .passed .passed) .1)
+    taking-room = omega (arith, h .candidates-within, few-polygons, h .on .there, decks-range file (h .on .passed .passed) .1)
 
-    module _ {q : Vec2} {r : Bool} (sampled : q ≡ sampleOn (decode file) (seat .place) from) (asked : r ≡ passesAt (deckAt file b) q k) where
-      here : Candidate
-      here = candidate (from .step) (from .deck) (from .sample) k
-
-      on-here : OnPassedDeck file b here
-      unfolding here
-      on-here = record { passed = on .passed; there = on .there; is = on .is; step = on .step; sample = on .sample }
-
+    module _ {r : Bool} (asked : r ≡ passesAt (deckAt file b) q k) where
       passes : r ≡ seenBy file blocked seat .passes here
       unfolding here sampleOn
-      passes = asked ∙ ap (λ (p : Vec2). passesAt (deckAt file b) p k) sampled ∙ seen-passes file blocked seat here on-here
+      passes = asked ∙ ap (λ (p : Vec2). passesAt (deckAt file b) p k) (h .sampled) ∙ seen-passes file blocked seat here on-here
 
-      pub taking-no : r ≡ false → Taking file blocked seat b from t tally (k + 1)
+      pub taking-no : r ≡ false → Taking file blocked seat b from q place t tally (k + 1)
       unfolding here
       taking-no n =
           record {
+            on = h .on;
+            seat-within = h .seat-within;
+            sampled = h .sampled;
+            moved = h .moved;
             same = h .same ∙ rw (passing-more-no (seenBy file blocked seat) (from .step) (from .deck) (from .sample) k (b .polygons) l (sym passes ∙ n));
             tried-within = h .tried-within;
             candidates-within = omega (arith, h .candidates-within);
             choice-within = h .choice-within;
           }
 
-      module _ (within : PointWithin 1000000 (seat .place)) {o place : Vec2} {g : Height} {next : Tally} (offset : o ≡ deckAt file b .offset) (moved : place ≡ addOf q o)
-          (measured : g ≡ heightOn (deckAt file b) k place) (taken : next ≡ takeWith (seat .wish) tally (candidate (from .step) (from .deck) (from .sample) k) place g) where
+      module _ {g : Height} {next : Tally} (measured : g ≡ heightOn (deckAt file b) k place)
+          (taken : next ≡ takeWith (seat .wish) tally (candidate (from .step) (from .deck) (from .sample) k) place g) where
         at-place : place ≡ seenBy file blocked seat .place here
         unfolding here sampleOn
-        at-place = moved ∙ ap₂ addOf sampled offset ∙ seen-place file blocked seat here on-here
+        at-place = h .moved ∙ ap (λ (p : Vec2). addOf p (deckAt file b .offset)) (h .sampled) ∙ seen-place file blocked seat here on-here
 
         at-height : g ≡ seenBy file blocked seat .height here
         unfolding here
@@ -155,20 +177,29 @@ module _ {file blocked : List ℕ} {seat : Seat} {b : Blocks} {from : Candidate}
         unfolding here
         next-is = taken ∙ ap₂ (takeWith (seat .wish) tally here) at-place at-height
 
-        pub taking-yes : r ≡ true → Taking file blocked seat b from t next (k + 1)
+        pub taking-yes : r ≡ true → Taking file blocked seat b from q place t next (k + 1)
         unfolding here tallyOf takeWith view
         taking-yes y =
-            subst⁻¹ (λ (u : Tally). Taking file blocked seat b from t u (k + 1)) next-is
+            subst⁻¹ (λ (u : Tally). Taking file blocked seat b from q place t u (k + 1)) next-is
             (record {
+              on = h .on;
+              seat-within = h .seat-within;
+              sampled = h .sampled;
+              moved = h .moved;
               same = h .same ∙ ap (tallyOf (seenBy file blocked seat) tally) (passing-more-yes (seenBy file blocked seat) (from .step) (from .deck) (from .sample) k (b .polygons) l (sym passes ∙ y));
               tried-within = h .tried-within;
               candidates-within = omega (arith, h .candidates-within);
               choice-within =
                   taken-within (seat .wish) (tally .choice) here (seenBy file blocked seat .place here) (seenBy file blocked seat .height here) (h .choice-within)
-                  (seen-within file blocked seat here on-here within l);
+                  (seen-within file blocked seat here on-here (h .seat-within) l);
             })
 
-pub ruleset taking = (sample-is, taking-all, taking-none, taking-within, taking-room, taking-no, taking-yes)
+pub ruleset taking = (taking-all, taking-none, taking-within, polygon-fits, taking-room, taking-no, taking-yes)
+
+-- ---- `deck_turn`
+pub around-is : (file : List ℕ) (p : Vec2) (b : Blocks) (s : ℕ) {o around : Vec2} {reach : Float} {hit : Hit} → o ≡ deckAt file b .offset → around ≡ subOf p o
+    → reach ≡ decode file .reach → hit ≡ deckTurn (deckAt file b) around reach s → hit ≡ deckTurn (deckAt file b) (subOf p (deckAt file b .offset)) (decode file .reach) s
+around-is file p b s eo ea er eh = eh ∙ rw (ea, eo, er)
 
 -- ---- `take_turn`
 module _ {file : List ℕ} {table : List ℤ} {seat : Seat} {s d : ℕ} {t : Tally} (ready : SearchReady file table seat s) (there : d < decksIn file) (after : AfterDecks s d t) where
@@ -186,11 +217,10 @@ module _ {file : List ℕ} {table : List ℤ} {seat : Seat} {s d : ℕ} {t : Tal
         choice-within = after .choice-within;
       }
 
-  module _ {b : Blocks} {o around : Vec2} {reach : Float} {hit : Hit} (is : b ≡ blocksAt file d) (offset : o ≡ deckAt file b .offset) (moved : around ≡ subOf (seat .place) o)
-      (reached : reach ≡ decode file .reach) (turned : hit ≡ deckTurn (deckAt file b) around reach s) where
+  module _ {b : Blocks} {hit : Hit} (is : b ≡ blocksAt file d)
+      (turned : hit ≡ deckTurn (deckAt file b) (subOf (seat .place) (deckAt file b .offset)) (decode file .reach) s) where
     turn-seen : (blocked : List ℕ) → hit ≡ turn (seenBy file blocked seat) s d
-    turn-seen blocked =
-        turned ∙ ap₂ (λ (p : Vec2) (x : Float). deckTurn (deckAt file b) p x s) (moved ∙ ap (subOf (seat .place)) offset) reached ∙ seen-turn file blocked seat there is s
+    turn-seen blocked = turned ∙ seen-turn file blocked seat there is s
 
     pub turn-missed : (blocked : List ℕ) → hit ≡ Missed → moreTried t (10 * s + 1) ≡ turnTally (seenBy file blocked seat) s d t
     unfolding turnTally tallyOf

@@ -2,11 +2,14 @@
 ghost use mathlib.Core.Path.{_≡_};
 ghost use Prim.Native.Nat.{_+_, _-_, _*_, _^_, _≤_, _<_};
 ghost use lib.ListN.{length};
+ghost use Rattle.geometry.specs.Plane.{subOf};
 ghost use Rattle.geometry.specs.Bounds.{PointWithin, HeightWithin};
 ghost use Rattle.ring.specs.Table.{directions};
 ghost use Rattle.ship.specs.Blocks.{decksIn};
-ghost use Rattle.ship.specs.Decode.{decode};
+ghost use Rattle.ship.specs.Decode.{deckAt, decode};
+ghost use Rattle.ship.specs.Questions.{DeckOfPassed};
 ghost use Rattle.survey.specs.Search.{passing};
+ghost use Rattle.search.specs.OnDeck.{deckTurn};
 ghost use Rattle.placing.specs.Sees.{choiceOf, sampleOn, seenBy, OnPassedDeck, SearchReady};
 ghost use Rattle.placing.specs.Tally.{takeWith, tallyOf, turnTally, stepTally, placementOf, placementWords, heightWords, placedWords, TallyWithin, AfterDecks, AfterSamples, PlacedWithin, PlacementWithin};
 use geometry::Height;
@@ -126,6 +129,7 @@ fn take_passing(
         let polygon = k;
         k += 1;
         if search::point_in_polygon(file, b, polygon, q) {
+            let wish = seat.wish;
             let c = Candidate {
                 step: from.step,
                 deck: from.deck,
@@ -133,7 +137,7 @@ fn take_passing(
                 polygon,
             };
             tally = take(
-                seat.wish,
+                wish,
                 tally,
                 c,
                 place,
@@ -142,6 +146,15 @@ fn take_passing(
         }
     }
     tally
+}
+
+// The turn in step s, around p, of the deck that lies at b.
+fn deck_turn(file: &[u8], table: &[i32; 2432], p: Vec2, b: Blocks, s: usize) -> Hit
+    requires { ⌜ DeckOfPassed (now file) b × ((now table ≡ directions) × (s < 16)) ⌝ }
+    ensures { λ r. ⌜ r ≡ deckTurn (deckAt (now (file .entry)) b) (subOf p (deckAt (now (file .entry)) b .offset)) (decode (now (file .entry)) .reach) s ⌝ }
+{
+    let around = geometry::sub(p, decks::offset(file, b));
+    search::first_hit(file, b, table, around, decks::reach(file), s)
 }
 
 // Deck d's turn in step s: its samples tried, and its candidates taken in.
@@ -158,12 +171,12 @@ fn take_turn(
     ensures { λ r. ⌜ (r ≡ turnTally (seenBy (now (file .entry)) (now (blocked .entry)) seat) s d t) × AfterDecks s (d + 1) r ⌝ }
 {
     let b = decks::deck_blocks(file, d);
-    let around = geometry::sub(seat.place, decks::offset(file, b));
-    match search::first_hit(file, b, table, around, decks::reach(file), s) {
+    let choice = t.choice;
+    match deck_turn(file, table, seat.place, b, s) {
         Hit::Missed => Tally {
             tried: t.tried + (10 * s + 1),
             candidates: t.candidates,
-            choice: t.choice,
+            choice,
         },
         Hit::At(i, k) => {
             let from = Candidate {
@@ -175,7 +188,7 @@ fn take_turn(
             let tried = Tally {
                 tried: t.tried + (i + 1),
                 candidates: t.candidates,
-                choice: t.choice,
+                choice,
             };
             take_passing(file, blocked, table, seat, b, from, tried)
         }
@@ -195,6 +208,7 @@ fn take_step(
     ensures { λ r. ⌜ (r ≡ stepTally (seenBy (now (file .entry)) (now (blocked .entry)) seat) s tried) × TallyWithin (38656 * (s + 1)) 4294967040 r ⌝ }
 {
     let decks = decks::deck_count(file);
+    let choice = seat.choice;
     let mut tally = Tally {
         tried,
         candidates: 0,
@@ -204,7 +218,7 @@ fn take_step(
     'decks: while d < decks {
         let deck = d;
         d += 1;
-        if survey::is_open(blocked, seat.choice, deck) {
+        if survey::is_open(blocked, choice, deck) {
             tally = take_turn(file, blocked, table, seat, s, deck, tally);
         }
     }
@@ -252,14 +266,15 @@ fn placed_words(p: Placed) -> [u32; 9]
     requires { ⌜ PlacedWithin p ⌝ }
     ensures { λ r. ⌜ r ≡ placedWords p ⌝ }
 {
-    let height = height_words(p.height);
+    let height = p.height;
+    let kind_and_bits = height_words(height);
     let c = p.candidate;
     [
         decks::packed(c.deck, c.polygon),
         f32::to_bits(p.place.x),
         f32::to_bits(p.place.y),
-        height[0],
-        height[1],
+        kind_and_bits[0],
+        kind_and_bits[1],
         c.step as u32,
         c.sample as u32,
         p.tried as u32,

@@ -1,0 +1,59 @@
+-- `place_seat` meets its contract. The loop's invariant: the first step with a candidate is the first from s on.
+use Prim.Native.Nat.{_-_, _≤_}
+use borrow.Author.Needs.{needs}
+use Rattle.placing.proofs.Ways.{Searching, searching}
+use Rattle.placing.proofs.place_seat.Statement.{statement}
+use Rattle.placing.proofs.place_seat.Tie as tie
+
+abbrev Inv-steps : tie.InvT-steps
+Inv-steps file blocked table seat steps tried₀ s₀ tried s = (s ≤ steps) × Searching file blocked seat tried s
+
+abbrev μ-steps : tie.MeasureT-steps
+μ-steps file blocked table seat steps tried₀ s₀ tried s = steps - s
+
+steps-requires : tie.Need-steps-requires Inv-steps μ-steps
+steps-requires c κs = search (searching, needs)
+
+steps-holds : tie.Need-steps-holds Inv-steps μ-steps
+steps-holds c = search (searching, needs)
+
+take-step-requires : tie.Need-take-step-requires Inv-steps μ-steps
+take-step-requires c κs = search (searching, needs)
+
+enum-known-choice : tie.Need-enum-known-choice Inv-steps μ-steps
+enum-known-choice c = search (searching, needs)
+
+returns : tie.Need-returns Inv-steps μ-steps
+returns c = (search (searching, needs), (search (searching, needs), (search needs, search needs)))
+
+enum-told : tie.Need-enum-told Inv-steps μ-steps
+enum-told c = search (searching, needs)
+
+add-s : tie.Need-add-s Inv-steps μ-steps
+add-s c = search (searching, needs)
+
+steps-less : tie.Need-steps-less Inv-steps μ-steps
+steps-less c = search (searching, needs)
+
+steps-again : tie.Need-steps-again Inv-steps μ-steps
+steps-again c = search (searching, needs)
+
+returns-2 : tie.Need-returns-2 Inv-steps μ-steps
+returns-2 c = search (searching, needs)
+
+pub place-seat-spec : {M : Type 1} → statement M
+place-seat-spec =
+    tie.close
+    (tie.spec
+    Inv-steps
+    μ-steps
+    steps-requires
+    steps-holds
+    take-step-requires
+    enum-known-choice
+    returns
+    enum-told
+    add-s
+    steps-less
+    steps-again
+    returns-2)
