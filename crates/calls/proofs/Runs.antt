@@ -30,7 +30,7 @@ use Rattle.search.specs.OnDeck.{passesAt, deckTurn}
 use Rattle.placing.specs.declared.Seat.{Seat}
 use Rattle.placing.specs.Sees.{sampleOn, view, seenBy, OnPassedDeck, SearchReady}
 use Rattle.placing.proofs.Seen.{seen-decks, seen-polygons, seen-turn, seen-passes, seen-place, seen-within}
-use Rattle.placing.proofs.Ways.{around-is}
+use Rattle.placing.proofs.Ways.{around-is, deck-there}
 use Rattle.calls.specs.Closest.{entryBytes, candidateBytes, Written}
 use Rattle.calls.proofs.Entries.{Left, left-all, left-none, left-room, left-more, none-written, one-written, front-written}
 
@@ -39,153 +39,156 @@ same-left : {v : View} {out₀ out : List ℕ} {n next : ℕ} {all l m : List Ca
 same-left {v} {out₀} {out} {n} {next} {all} e h = subst (Left v out₀ n all out next) e h
 
 -- ---- `put_passing`
--- the polygons below k are written, at the sample q of a deck of the file, which is the place `place`
-pub record Putting (file blocked : List ℕ) (seat : Seat) (b : Blocks) (from : Candidate) (q place : Vec2) (out₀ : List ℕ) (n : ℕ) (out : List ℕ) (next k : ℕ) : Type 0 where
+-- q is the sample of `from`, on the deck that lies at b, for the seat; place is where it lies; and there is room for all that passes there
+pub record Sampled (file blocked : List ℕ) (seat : Seat) (b : Blocks) (from : Candidate) (q place : Vec2) (out : List ℕ) (n : ℕ) : Type 0 where
   pub on : OnPassedDeck file b from
   pub seat-within : PointWithin 1000000 (seat .place)
   pub sampled : q ≡ sampleOn (decode file) (seat .place) from
   pub moved : place ≡ addOf q (deckAt file b .offset)
-  pub left :
-      Left (seenBy file blocked seat) out₀ n
-      (passing (seenBy file blocked seat) (from .step) (from .deck) (from .sample) (from .polygon) (b .polygons - from .polygon)) out next
+  pub room : 12 * (n + length (passing (seenBy file blocked seat) (from .step) (from .deck) (from .sample) (from .polygon) (b .polygons - from .polygon))) ≤ length out
+
+-- The polygons below k are written, whichever seat the sample is for. The loop's state holds no seat, so one is kept here.
+pub record Putting (file blocked : List ℕ) (b : Blocks) (from : Candidate) (q place : Vec2) (out₀ : List ℕ) (n : ℕ) (out : List ℕ) (next k : ℕ) : Type 0 where
+  pub some : Seat
+  pub sampled : Sampled file blocked some b from q place out₀ n
+  pub count-fits : length out₀ < 2 ^ 64
+  pub left : (seat : Seat) → Sampled file blocked seat b from q place out₀ n
+      → Left (seenBy file blocked seat) out₀ n (passing (seenBy file blocked seat) (from .step) (from .deck) (from .sample) (from .polygon) (b .polygons - from .polygon)) out next
       (passing (seenBy file blocked seat) (from .step) (from .deck) (from .sample) k (b .polygons - k))
 
-pub putting-all : {file : List ℕ} (blocked : List ℕ) {seat : Seat} {b : Blocks} {from : Candidate} {q o place : Vec2} {out : List ℕ} {n : ℕ}
-    → OnPassedDeck file b from → PointWithin 1000000 (seat .place)
-    → 12 * (n + length (passing (seenBy file blocked seat) (from .step) (from .deck) (from .sample) (from .polygon) (b .polygons - from .polygon))) ≤ length out
-    → q ≡ sampleOn (decode file) (seat .place) from → o ≡ deckAt file b .offset → place ≡ addOf q o
-    → Putting file blocked seat b from q place out n out n (from .polygon)
-putting-all blocked on within room sampled offset moved =
-    record { on = on; seat-within = within; sampled = sampled; moved = rw offset at moved; left = left-all room }
+module _ {file : List ℕ} (blocked : List ℕ) (seat : Seat) {b : Blocks} {from : Candidate} {q o place : Vec2} (out : List ℕ) (n : ℕ)
+    (room : 12 * (n + length (passing (seenBy file blocked seat) (from .step) (from .deck) (from .sample) (from .polygon) (b .polygons - from .polygon))) ≤ length out)
+    (on : OnPassedDeck file b from) (within : PointWithin 1000000 (seat .place)) (sampled : q ≡ sampleOn (decode file) (seat .place) from) (offset : o ≡ deckAt file b .offset)
+    (moved : place ≡ addOf q o) where
+  pub sampled-is : Sampled file blocked seat b from q place out n
+  sampled-is = record { on = on; seat-within = within; sampled = sampled; moved = rw offset at moved; room = room }
 
-module _ {file blocked : List ℕ} {seat : Seat} {b : Blocks} {from : Candidate} {q place : Vec2} {out₀ : List ℕ} {n : ℕ} {out : List ℕ} {next k : ℕ}
-    (h : Putting file blocked seat b from q place out₀ n out next k) where
-  pub putting-long : length out ≡ length out₀
-  putting-long = h .left .long
+  pub putting-all : length out < 2 ^ 64 → Putting file blocked b from q place out n out n (from .polygon)
+  putting-all l = record { some = seat; sampled = sampled-is; count-fits = l; left = λ other t. left-all (t .room) }
 
-  pub putting-below : 12 * next ≤ length out
-  putting-below = omega (arith, h .left .room, h .left .long, h .left .count)
-
-  pub putting-none : b .polygons ≤ k
-      → Written (seenBy file blocked seat) (passing (seenBy file blocked seat) (from .step) (from .deck) (from .sample) (from .polygon) (b .polygons - from .polygon)) out₀ n out next
-  putting-none l = left-none (same-left (passing-none (seenBy file blocked seat) (from .step) (from .deck) (from .sample) k (b .polygons) l) (h .left))
-
-  module _ (l : k < b .polygons) where
+module _ {file blocked : List ℕ} {seat : Seat} {b : Blocks} {from : Candidate} {q place : Vec2} {out₀ : List ℕ} {n : ℕ} (t : Sampled file blocked seat b from q place out₀ n) where
+  module _ (k : ℕ) (l : k < b .polygons) where
     here : Candidate
     here = candidate (from .step) (from .deck) (from .sample) k
 
-    later : List Candidate
-    later = passing (seenBy file blocked seat) (from .step) (from .deck) (from .sample) (k + 1) (b .polygons - (k + 1))
-
     on-here : OnPassedDeck file b here
     unfolding here
-    on-here = record { passed = h .on .passed; there = h .on .there; is = h .on .is; step = h .on .step; sample = h .on .sample }
+    on-here = record { passed = t .on .passed; there = t .on .there; is = t .on .is; step = t .on .step; sample = t .on .sample }
 
     at-place : place ≡ seenBy file blocked seat .place here
     unfolding here sampleOn
-    at-place = h .moved ∙ ap (λ (p : Vec2). addOf p (deckAt file b .offset)) (h .sampled) ∙ seen-place file blocked seat here on-here
+    at-place = t .moved ∙ ap (λ (p : Vec2). addOf p (deckAt file b .offset)) (t .sampled) ∙ seen-place file blocked seat here on-here
 
-    pub putting-place : PointWithin 3015000 place
+    place-small : PointWithin 3015000 place
     unfolding here
-    putting-place = subst (PointWithin 3015000) (sym at-place) (seen-within file blocked seat here on-here (h .seat-within) l .place-within)
+    place-small = subst (PointWithin 3015000) (sym at-place) (seen-within file blocked seat here on-here (t .seat-within) l .place-within)
+
+    module _ {r : Bool} (asked : r ≡ passesAt (deckAt file b) q k) where
+      passes : r ≡ seenBy file blocked seat .passes here
+      unfolding here sampleOn
+      passes = asked ∙ ap (λ (p : Vec2). passesAt (deckAt file b) p k) (t .sampled) ∙ seen-passes file blocked seat here on-here
+
+      later : List Candidate
+      later = passing (seenBy file blocked seat) (from .step) (from .deck) (from .sample) (k + 1) (b .polygons - (k + 1))
+
+      none-here : r ≡ false → passing (seenBy file blocked seat) (from .step) (from .deck) (from .sample) k (b .polygons - k) ≡ later
+      unfolding here later
+      none-here z = passing-more-no (seenBy file blocked seat) (from .step) (from .deck) (from .sample) k (b .polygons) l (sym passes ∙ z)
+
+      one-here : r ≡ true → passing (seenBy file blocked seat) (from .step) (from .deck) (from .sample) k (b .polygons - k) ≡ (here ∷ []) ++ later
+      unfolding here later
+      one-here y = passing-more-yes (seenBy file blocked seat) (from .step) (from .deck) (from .sample) k (b .polygons) l (sym passes ∙ y)
+
+      one-put : {polygon : ℕ} {out out′ : List ℕ} {next : ℕ} → polygon ≡ packedOf (from .deck) k → out′ ≡ splice out (12 * next) (entryBytes polygon place)
+          → Written (seenBy file blocked seat) (here ∷ []) out next out′ (next + 1)
+      unfolding here
+      one-put {polygon} {out} {out′} {next} packed put =
+          one-written (seenBy file blocked seat) here (put ∙ ap₂ (λ (m : ℕ) (p : Vec2). splice out (12 * next) (entryBytes m p)) packed at-place)
+
+module _ {file blocked : List ℕ} {b : Blocks} {from : Candidate} {q place : Vec2} {out₀ : List ℕ} {n : ℕ} {out : List ℕ} {next k : ℕ}
+    (h : Putting file blocked b from q place out₀ n out next k) where
+  pub putting-long : length out ≡ length out₀
+  putting-long = h .left (h .some) (h .sampled) .long
+
+  pub putting-none : {seat : Seat} → Sampled file blocked seat b from q place out₀ n → b .polygons ≤ k
+      → Written (seenBy file blocked seat) (passing (seenBy file blocked seat) (from .step) (from .deck) (from .sample) (from .polygon) (b .polygons - from .polygon)) out₀ n out next
+  putting-none {seat} t l = left-none (same-left (passing-none (seenBy file blocked seat) (from .step) (from .deck) (from .sample) k (b .polygons) l) (h .left seat t))
+
+  module _ (l : k < b .polygons) where
+    pub putting-place : PointWithin 3015000 place
+    putting-place = place-small (h .sampled) k l
 
     pub putting-deck : from .deck < 256
-    putting-deck = omega (arith, h .on .there, decks-range file (h .on .passed .passed) .1)
+    putting-deck = omega (arith, h .sampled .on .there, decks-range file (h .sampled .on .passed .passed) .1)
 
     pub putting-polygon : k < 2 ^ 24
-    putting-polygon = omega (arith, sound (h .on .passed) .few-polygons)
+    putting-polygon = omega (arith, sound (h .sampled .on .passed) .few-polygons)
 
     pub polygon-fits : Fits w64 (k + 1)
     polygon-fits = record { fits = omega (arith, putting-polygon) }
 
     module _ {r : Bool} (asked : r ≡ passesAt (deckAt file b) q k) where
-      passes : r ≡ seenBy file blocked seat .passes here
-      unfolding here sampleOn
-      passes = asked ∙ ap (λ (p : Vec2). passesAt (deckAt file b) p k) (h .sampled) ∙ seen-passes file blocked seat here on-here
-
-      pub putting-no : r ≡ false → Putting file blocked seat b from q place out₀ n out next (k + 1)
-      unfolding here
+      pub putting-no : r ≡ false → Putting file blocked b from q place out₀ n out next (k + 1)
+      unfolding later
       putting-no z =
-          record {
-            on = h .on;
-            seat-within = h .seat-within;
-            sampled = h .sampled;
-            moved = h .moved;
-            left = same-left (passing-more-no (seenBy file blocked seat) (from .step) (from .deck) (from .sample) k (b .polygons) l (sym passes ∙ z)) (h .left);
-          }
+          record { some = h .some; sampled = h .sampled; count-fits = h .count-fits; left = λ seat t. same-left (none-here t k l asked z) (h .left seat t) }
 
       module _ (y : r ≡ true) where
-        polygon-first : passing (seenBy file blocked seat) (from .step) (from .deck) (from .sample) k (b .polygons - k) ≡ (here ∷ []) ++ later
-        unfolding here later
-        polygon-first = passing-more-yes (seenBy file blocked seat) (from .step) (from .deck) (from .sample) k (b .polygons) l (sym passes ∙ y)
-
         pub putting-room : 12 * next + 12 ≤ length out
-        putting-room = omega (arith, left-room (h .left) (here ∷ []) later polygon-first)
+        putting-room =
+            let t = h .sampled in
+            omega (arith, left-room (h .left (h .some) t) (here t k l ∷ []) (later t k l asked) (one-here t k l asked y))
+
+        pub next-fits : Fits w64 (next + 1)
+        next-fits = record { fits = omega (arith, putting-room, putting-long, h .count-fits) }
 
         pub putting-yes : {polygon : ℕ} {out′ : List ℕ} → polygon ≡ packedOf (from .deck) k → out′ ≡ splice out (12 * next) (entryBytes polygon place)
-            → Putting file blocked seat b from q place out₀ n out′ (next + 1) (k + 1)
-        unfolding here later
+            → Putting file blocked b from q place out₀ n out′ (next + 1) (k + 1)
+        unfolding later
         putting-yes packed put =
             record {
-              on = h .on;
-              seat-within = h .seat-within;
+              some = h .some;
               sampled = h .sampled;
-              moved = h .moved;
-              left =
-                  left-more (h .left) (here ∷ []) later polygon-first
-                  (one-written (seenBy file blocked seat) here (put ∙ ap₂ (λ (m : ℕ) (p : Vec2). splice out (12 * next) (entryBytes m p)) packed at-place));
+              count-fits = h .count-fits;
+              left = λ seat t. left-more (h .left seat t) (here t k l ∷ []) (later t k l asked) (one-here t k l asked y) (one-put t k l asked packed put);
             }
 
-pub ruleset putting = (putting-all, putting-long, putting-below, putting-none, putting-place, putting-deck, putting-polygon, polygon-fits, putting-no, putting-room, putting-yes)
+pub ruleset putting = (sampled-is, putting-all, putting-long, putting-none, putting-place, putting-deck, putting-polygon, polygon-fits, putting-no, putting-room, next-fits, putting-yes)
 
 -- ---- `put_turn`
--- hit is the turn of deck d, which lies at b
-pub record Turned (file : List ℕ) (seat : Seat) (s d : ℕ) (b : Blocks) (hit : Hit) : Type 0 where
-  pub there : d < decksIn file
-  pub is : b ≡ blocksAt file d
-  pub hit-is : hit ≡ deckTurn (deckAt file b) (subOf (seat .place) (deckAt file b .offset)) (decode file .reach) s
+module _ {file : List ℕ} {seat : Seat} {s d : ℕ} {b : Blocks} {o around : Vec2} {reach : Float} {hit : Hit} (there : d < decksIn file) (is : b ≡ blocksAt file d)
+    (offset : o ≡ deckAt file b .offset) (moved : around ≡ subOf (seat .place) o) (reached : reach ≡ decode file .reach) (turned : hit ≡ deckTurn (deckAt file b) around reach s) where
+  turn-seen : (blocked : List ℕ) → hit ≡ turn (seenBy file blocked seat) s d
+  turn-seen blocked = around-is file (seat .place) b s offset moved reached turned ∙ seen-turn file blocked seat there is s
 
-pub turned : {file : List ℕ} {seat : Seat} {s d : ℕ} {b : Blocks} {o around : Vec2} {reach : Float} {hit : Hit} → d < decksIn file → b ≡ blocksAt file d → o ≡ deckAt file b .offset
-    → around ≡ subOf (seat .place) o → reach ≡ decode file .reach → hit ≡ deckTurn (deckAt file b) around reach s → Turned file seat s d b hit
-turned {file} {seat} {s} {d} {b} l e eo ea er eh = record { there = l; is = e; hit-is = around-is file (seat .place) b s eo ea er eh }
-
-module _ {file : List ℕ} (blocked : List ℕ) {seat : Seat} {s d : ℕ} {b : Blocks} {hit : Hit} (h : Turned file seat s d b hit) where
-  turn-seen : hit ≡ turn (seenBy file blocked seat) s d
-  turn-seen = h .hit-is ∙ seen-turn file blocked seat (h .there) (h .is) s
-
-  pub turn-missed : (out : List ℕ) (n : ℕ) → hit ≡ Missed → Written (seenBy file blocked seat) (given (seenBy file blocked seat) s d (turn (seenBy file blocked seat) s d)) out n out n
-  turn-missed out n e = rw (sym turn-seen ∙ e) (none-written (seenBy file blocked seat) out n)
+  pub turn-missed : (blocked out : List ℕ) (n : ℕ) → hit ≡ Missed
+      → Written (seenBy file blocked seat) (given (seenBy file blocked seat) s d (turn (seenBy file blocked seat) s d)) out n out n
+  turn-missed blocked out n e = rw (sym (turn-seen blocked) ∙ e) (none-written (seenBy file blocked seat) out n)
 
   module _ {i k : ℕ} (e : hit ≡ At i k) where
-    gives : passing (seenBy file blocked seat) s d i k (b .polygons - k) ≡ given (seenBy file blocked seat) s d (turn (seenBy file blocked seat) s d)
-    gives =
+    -- the blocked set has no part in a turn
+    pub turn-on : {table : List ℤ} → SearchReady file table seat s → DeckOfPassed file b → OnPassedDeck file b (candidate s d i k)
+    turn-on ready p =
+        record { passed = p; there = there; is = is; step = ready .step-below; sample = hit-sample (seenBy file [] seat) s d i k (sym (turn-seen []) ∙ e) }
+
+    gives : (blocked : List ℕ)
+        → passing (seenBy file blocked seat) s d i k (b .polygons - k) ≡ given (seenBy file blocked seat) s d (turn (seenBy file blocked seat) s d)
+    gives blocked =
         let v = seenBy file blocked seat in
-        let f : turn v s d ≡ At i k = sym turn-seen ∙ e in
-        ap (λ (m : ℕ). passing v s d i k (m - k)) (sym (seen-polygons file blocked seat (h .there) (h .is)))
+        let f : turn v s d ≡ At i k = sym (turn-seen blocked) ∙ e in
+        ap (λ (m : ℕ). passing v s d i k (m - k)) (sym (seen-polygons file blocked seat there is))
         ∙ sym (given-from v s d i k f)
         ∙ ap (given v s d) (sym f)
 
-    pub turn-room : (out : List ℕ) (n : ℕ) → 12 * (n + length (given (seenBy file blocked seat) s d (turn (seenBy file blocked seat) s d))) ≤ length out
+    pub turn-room : (blocked out : List ℕ) (n : ℕ) → 12 * (n + length (given (seenBy file blocked seat) s d (turn (seenBy file blocked seat) s d))) ≤ length out
         → 12 * (n + length (passing (seenBy file blocked seat) s d i k (b .polygons - k))) ≤ length out
-    turn-room out n room = rw gives room
+    turn-room blocked out n room = rw (gives blocked) room
 
-    pub turn-hit : {out out′ : List ℕ} {n next : ℕ} → Written (seenBy file blocked seat) (passing (seenBy file blocked seat) s d i k (b .polygons - k)) out n out′ next
+    pub turn-hit : {blocked out out′ : List ℕ} {n next : ℕ} → Written (seenBy file blocked seat) (passing (seenBy file blocked seat) s d i k (b .polygons - k)) out n out′ next
         → Written (seenBy file blocked seat) (given (seenBy file blocked seat) s d (turn (seenBy file blocked seat) s d)) out n out′ next
-    turn-hit {out} {out′} {n} {next} w = subst (λ (l : List Candidate). Written (seenBy file blocked seat) l out n out′ next) gives w
+    turn-hit {blocked} {out} {out′} {n} {next} w = subst (λ (l : List Candidate). Written (seenBy file blocked seat) l out n out′ next) (gives blocked) w
 
--- nothing of it hangs on the blocked set
-pub turn-on : {file : List ℕ} {table : List ℤ} {seat : Seat} {s d : ℕ} {b : Blocks} {hit : Hit} {i k : ℕ} → Turned file seat s d b hit → hit ≡ At i k → SearchReady file table seat s
-    → DeckOfPassed file b → OnPassedDeck file b (candidate s d i k)
-turn-on {file} {table} {seat} {s} {d} {b} {hit} {i} {k} h e ready p =
-    record {
-      passed = p;
-      there = h .there;
-      is = h .is;
-      step = ready .step-below;
-      sample = hit-sample (seenBy file [] seat) s d i k (sym (turn-seen [] h) ∙ e);
-    }
-
-pub ruleset turns = (turned, turn-missed, turn-room, turn-hit, turn-on)
+pub ruleset turns = (turn-missed, turn-on, turn-room, turn-hit)
 
 -- ---- `put_step`
 -- the decks below d are written
@@ -233,4 +236,4 @@ module _ {file blocked : List ℕ} {seat : Seat} {s : ℕ} {out₀ out : List �
           → Stepping file blocked seat s out₀ out′ next (d + 1)
       stepping-open w = record { left = left-more (h .left) _ _ deck-first w }
 
-pub ruleset stepping = (stepping-all, stepping-long, stepping-none, stepping-shut, stepping-room, stepping-open)
+pub ruleset stepping = (deck-there, stepping-all, stepping-long, stepping-none, stepping-shut, stepping-room, stepping-open)

@@ -106,14 +106,13 @@ fn put_passing(
     let q = placing::sample_on(file, table, seat.place, b, from);
     let place = geometry::add(q, decks::offset(file, b));
     let polygons = b.polygons;
-    let deck = from.deck;
     let mut written = n;
     let mut k = from.polygon;
     'polygons: while k < polygons {
         let polygon = k;
         k += 1;
         if search::point_in_polygon(file, b, polygon, q) {
-            put_candidate(out, written, decks::packed(deck, polygon), place);
+            put_candidate(out, written, decks::packed(from.deck, polygon), place);
             written += 1;
         }
     }
@@ -156,12 +155,13 @@ fn put_step(file: &[u8], blocked: &[u8], table: &[i32; 2432], seat: Seat, s: usi
     ensures { λ r. ⌜ now (out .exit) ≡ joined (candidateBytes (seenBy (now (file .entry)) (now (blocked .entry)) seat)) (candidates (seenBy (now (file .entry)) (now (blocked .entry)) seat) s) ++ drop (12 * length (candidates (seenBy (now (file .entry)) (now (blocked .entry)) seat) s)) (now (out .entry)) ⌝ }
 {
     let decks = decks::deck_count(file);
+    let choice = seat.choice;
     let mut n: usize = 0;
     let mut d: usize = 0;
     'decks: while d < decks {
         let deck = d;
         d += 1;
-        if survey::is_open(blocked, seat.choice, deck) {
+        if survey::is_open(blocked, choice, deck) {
             n = put_turn(file, blocked, table, seat, s, deck, out, n);
         }
     }
