@@ -1,7 +1,7 @@
 -- `place_seat` meets its contract. The loop's invariant: the first step with a candidate is the first from s on.
 use Prim.Native.Nat.{_-_, _≤_}
 use borrow.Author.Needs.{needs}
-use Rattle.placing.proofs.Ways.{Searching, searching}
+use Rattle.placing.proofs.StepLoop.{Searching, searching}
 use Rattle.placing.proofs.place_seat.Statement.{statement}
 use Rattle.placing.proofs.place_seat.Tie as tie
 

@@ -1,7 +1,7 @@
 -- `take_passing` meets its contract. The loop's invariant: the tally of all polygons that pass is that of those from k on, after the tally so far.
 use Prim.Native.Nat.{_-_}
 use borrow.Author.Needs.{needs}
-use Rattle.placing.proofs.Ways.{Taking, taking}
+use Rattle.placing.proofs.PolygonLoop.{Taking, taking}
 use Rattle.placing.proofs.take_passing.Statement.{statement}
 use Rattle.placing.proofs.take_passing.Tie as tie
 

@@ -1,7 +1,7 @@
 -- `take_step` meets its contract. The loop's invariant: the tally of the step is that of the decks from d on, after the tally so far.
 use Prim.Native.Nat.{_-_, _≤_}
 use borrow.Author.Needs.{needs}
-use Rattle.placing.proofs.Ways.{Stepping, stepping}
+use Rattle.placing.proofs.DeckLoop.{Stepping, stepping}
 use Rattle.placing.proofs.take_step.Statement.{statement}
 use Rattle.placing.proofs.take_step.Tie as tie
 
