@@ -179,7 +179,7 @@ module _ (file : List ℕ) (passed : firstNo file ≡ Passed) where
 
   module _ (d : ℕ) (there : d < decksIn file) where
     deck-offset : PointWithin 1000000 (deckOf (decode file) d .offset)
-    deck-offset = rw (deck-of file d there) (offset-within file (blocksAt file d) (deck-passed d there))
+    deck-offset = rw (deck-of file d there) (offset-within (deck-passed d there))
 
     deck-height : (k : ℕ) (p : Vec2) → PointWithin 3015000 p → HeightWithin (2 ^ 121) (heightOn (deckOf (decode file) d) k p)
     unfolding heightOn
@@ -192,7 +192,7 @@ module _ (file : List ℕ) (passed : firstNo file ≡ Passed) where
         go [] = tt
         go (h ∷ hs) =
             heights-within p (polygonCorners (deckAt file b) k) (record { x = widen (omega arith) (P .x); y = widen (omega arith) (P .y) })
-            (corners-within file b (deck-passed d there) k) (polygon-few file b (deck-passed d there) k)
+            (corners-within (deck-passed d there) k) (polygon-few (deck-passed d there) k)
 
   module _ (blocked : List ℕ) (seat : Seat) (at : PointWithin 1000000 (seat .place)) (wish : WishWithin 1000000 (seat .wish)) where
     seen-place : (c : Candidate) → c .deck < decksIn file → c .step < 16 → c .sample ≤ 10 * c .step → PointWithin 3015000 (placeOf (decode file) (seat .place) c)
