@@ -51,13 +51,17 @@ module _ (bytes room : ℕ) where
   q20-yes l = le-leb bytes room l
 
 -- ---- the questions of a query, and then 20
-abbrev Gives : List ℕ → Vec2 → ℕ → List ℕ → List Candidate → List ℕ → Answer → List ℕ → Type 0
-Gives file p deck blocked entries out answer out′ = (answer ≡ closestAnswer file p deck blocked entries out) × (out′ ≡ closestOutput file p deck blocked entries out)
-
 module _ (file : List ℕ) (p : Vec2) (deck : ℕ) (blocked : List ℕ) {r : FileCheck} (asked : r ≡ queryCheck file p deck blocked) where
-  pub query-no : (entries : List Candidate) (out : List ℕ) {number : ℕ} → r ≡ No number → Gives file p deck blocked entries out (Refused number) out
-  unfolding closestCheck
-  query-no entries out e = rw (sym asked ∙ e) (refl, refl)
+  module _ (entries : List Candidate) (out : List ℕ) {number : ℕ} (e : r ≡ No number) where
+    check-no : closestCheck file p deck blocked entries (length out) ≡ No number
+    unfolding closestCheck
+    check-no = rw (sym asked ∙ e)
+
+    pub no-answer : Refused number ≡ closestAnswer file p deck blocked entries out
+    no-answer = rw check-no
+
+    pub no-output : out ≡ closestOutput file p deck blocked entries out
+    no-output = rw check-no
 
   module _ (yes : r ≡ Passed) where
     pub query-blocked : length blocked ≡ 32
@@ -69,21 +73,39 @@ module _ (file : List ℕ) (p : Vec2) (deck : ℕ) (blocked : List ℕ) {r : Fil
         record { file-passed = q .file-yes; table-is = t; place-within = rw e (q .place-within); step-below = omega arith }
 
     module _ (entries : List Candidate) (out : List ℕ) where
-      pub none-found : entries ≡ [] → Gives file p deck blocked entries out (Wrote 0) out
-      unfolding closestCheck joined
-      none-found e = rw (sym asked ∙ yes, e, q20-yes 0 (length out) (omega arith)) (refl, refl)
+      module _ (l : length out < 12 * length entries) where
+        check-short : closestCheck file p deck blocked entries (length out) ≡ No 20
+        unfolding closestCheck
+        check-short = rw (sym asked ∙ yes, q20-no (12 * length entries) (length out) l)
 
-      pub too-short : length out < 12 * length entries → Gives file p deck blocked entries out (Refused 20) out
-      unfolding closestCheck
-      too-short l = rw (sym asked ∙ yes, q20-no (12 * length entries) (length out) l) (refl, refl)
+        pub short-answer : Refused 20 ≡ closestAnswer file p deck blocked entries out
+        short-answer = rw check-short
 
-      pub all-written : {n : ℕ} {out′ : List ℕ} → 12 * length entries ≤ length out → n ≡ length entries
-          → out′ ≡ joined (candidateBytes (seenBy file blocked (askedAt p deck))) entries ++ drop (12 * length entries) out
-          → Gives file p deck blocked entries out (Wrote n) out′
-      unfolding closestCheck
-      all-written l m o =
-          rw (sym asked ∙ yes, q20-yes (12 * length entries) (length out) l, m)
-          (refl, rw (length-entries (seenBy file blocked (askedAt p deck)) entries) o)
+        pub short-output : out ≡ closestOutput file p deck blocked entries out
+        short-output = rw check-short
+
+      module _ (l : 12 * length entries ≤ length out) where
+        check-passed : closestCheck file p deck blocked entries (length out) ≡ Passed
+        unfolding closestCheck
+        check-passed = rw (sym asked ∙ yes, q20-yes (12 * length entries) (length out) l)
+
+        pub written-answer : {n : ℕ} → n ≡ length entries → Wrote n ≡ closestAnswer file p deck blocked entries out
+        written-answer e = rw (check-passed, e)
+
+        pub written-output : {out′ : List ℕ} → out′ ≡ joined (candidateBytes (seenBy file blocked (askedAt p deck))) entries ++ drop (12 * length entries) out
+            → out′ ≡ closestOutput file p deck blocked entries out
+        written-output o = rw (check-passed, length-entries (seenBy file blocked (askedAt p deck)) entries) o
+
+      module _ (e : entries ≡ []) where
+        fits : 12 * length entries ≤ length out
+        fits = rw e (omega arith)
+
+        pub none-answer : Wrote 0 ≡ closestAnswer file p deck blocked entries out
+        none-answer = written-answer fits (rw e)
+
+        pub none-output : out ≡ closestOutput file p deck blocked entries out
+        unfolding joined
+        none-output = written-output fits (rw e)
 
 -- ---- where the search of a seat without a wish ended
 pub record PlacedFirst (v : View) (S : ℕ) (p : Placed) : Type 0 where
@@ -164,7 +186,7 @@ module _ (file : List ℕ) (p : Vec2) (deck : ℕ) (blocked : List ℕ) {seat : 
 
     pub points-written : (out : List ℕ) {out′ : List ℕ}
         → out′ ≡ joined (candidateBytes (seenBy file blocked seat)) (candidates (seenBy file blocked seat) (found .candidate .step))
-            ++ drop (12 * length (candidates (seenBy file blocked seat) (found .candidate .step))) out
+        ++ drop (12 * length (candidates (seenBy file blocked seat) (found .candidate .step))) out
         → out′ ≡ joined (candidateBytes (seenBy file blocked (askedAt p deck))) (closestPoints file p deck blocked) ++ drop (12 * length (closestPoints file p deck blocked)) out
     points-written out o = o ∙ rw (points-are, is)
 
@@ -208,7 +230,8 @@ module _ {r : Placement} {found : Placed} (e : r ≡ PlacedAt found) (within : P
   pub found-place : PointWithin 3015000 (found .place)
   found-place = placed-within e within .0 .place-within
 
-pub ruleset searches = (query-no, query-blocked, query-ready, none-found, too-short, all-written)
+pub ruleset searches =
+    (no-answer, no-output, query-blocked, query-ready, short-answer, short-output, written-answer, written-output, none-answer, none-output)
 
 pub ruleset all-points = (searches, no-points, points-count, points-short, points-room, points-fit, points-written, count-fits, found-ready)
 

@@ -84,11 +84,11 @@ pub asked-is : (p : Vec2) (deck : ℕ) {choice : DeckChoice} → choice ≡ choi
 asked-is p deck e = ap (λ (c : DeckChoice). record { place = p; choice = c; wish = NoWish }) e
 
 -- ---- a passed query
-asked-yes : (b : Bool) (number : ℕ) (later : FileCheck) → ask b number later ≡ Passed → (b ≡ true) × (later ≡ Passed)
+pub asked-yes : (b : Bool) (number : ℕ) (later : FileCheck) → ask b number later ≡ Passed → (b ≡ true) × (later ≡ Passed)
 asked-yes true number later h = (refl, h)
 asked-yes false number later h = (cc, cc)
 
-after-yes : (first later : FileCheck) → after first later ≡ Passed → (first ≡ Passed) × (later ≡ Passed)
+pub after-yes : (first later : FileCheck) → after first later ≡ Passed → (first ≡ Passed) × (later ≡ Passed)
 after-yes Passed later h = (refl, h)
 after-yes (No number) later h = (cc, cc)
 

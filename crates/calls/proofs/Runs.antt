@@ -30,7 +30,9 @@ use Rattle.search.specs.OnDeck.{passesAt, deckTurn}
 use Rattle.placing.specs.declared.Seat.{Seat}
 use Rattle.placing.specs.Sees.{sampleOn, view, seenBy, OnPassedDeck, SearchReady}
 use Rattle.placing.proofs.Seen.{seen-decks, seen-polygons, seen-turn, seen-passes, seen-place, seen-within}
-use Rattle.placing.proofs.Ways.{around-is, deck-there}
+use Rattle.placing.proofs.Ways.{around-is}
+use Rattle.placing.proofs.PolygonLoop.{AtSample, passingFrom}
+use Rattle.placing.proofs.DeckLoop.{deck-there}
 use Rattle.calls.specs.Closest.{entryBytes, candidateBytes, Written}
 use Rattle.calls.proofs.Entries.{Left, left-all, left-none, left-room, left-more, none-written, one-written, front-written}
 
@@ -41,11 +43,8 @@ same-left {v} {out₀} {out} {n} {next} {all} e h = subst (Left v out₀ n all o
 -- ---- `put_passing`
 -- q is the sample of `from`, on the deck that lies at b, for the seat; place is where it lies; and there is room for all that passes there
 pub record Sampled (file blocked : List ℕ) (seat : Seat) (b : Blocks) (from : Candidate) (q place : Vec2) (out : List ℕ) (n : ℕ) : Type 0 where
-  pub on : OnPassedDeck file b from
-  pub seat-within : PointWithin 1000000 (seat .place)
-  pub sampled : q ≡ sampleOn (decode file) (seat .place) from
-  pub moved : place ≡ addOf q (deckAt file b .offset)
-  pub room : 12 * (n + length (passing (seenBy file blocked seat) (from .step) (from .deck) (from .sample) (from .polygon) (b .polygons - from .polygon))) ≤ length out
+  pub at-sample : AtSample file seat b from q place
+  pub room : 12 * (n + length (passingFrom file blocked seat b from (from .polygon))) ≤ length out
 
 -- The polygons below k are written, whichever seat the sample is for. The loop's state holds no seat, so one is kept here.
 pub record Putting (file blocked : List ℕ) (b : Blocks) (from : Candidate) (q place : Vec2) (out₀ : List ℕ) (n : ℕ) (out : List ℕ) (next k : ℕ) : Type 0 where
@@ -53,15 +52,15 @@ pub record Putting (file blocked : List ℕ) (b : Blocks) (from : Candidate) (q 
   pub sampled : Sampled file blocked some b from q place out₀ n
   pub count-fits : length out₀ < 2 ^ 64
   pub left : (seat : Seat) → Sampled file blocked seat b from q place out₀ n
-      → Left (seenBy file blocked seat) out₀ n (passing (seenBy file blocked seat) (from .step) (from .deck) (from .sample) (from .polygon) (b .polygons - from .polygon)) out next
-      (passing (seenBy file blocked seat) (from .step) (from .deck) (from .sample) k (b .polygons - k))
+      → Left (seenBy file blocked seat) out₀ n (passingFrom file blocked seat b from (from .polygon)) out next
+      (passingFrom file blocked seat b from k)
 
 module _ {file : List ℕ} (blocked : List ℕ) (seat : Seat) {b : Blocks} {from : Candidate} {q o place : Vec2} (out : List ℕ) (n : ℕ)
-    (room : 12 * (n + length (passing (seenBy file blocked seat) (from .step) (from .deck) (from .sample) (from .polygon) (b .polygons - from .polygon))) ≤ length out)
+    (room : 12 * (n + length (passingFrom file blocked seat b from (from .polygon))) ≤ length out)
     (on : OnPassedDeck file b from) (within : PointWithin 1000000 (seat .place)) (sampled : q ≡ sampleOn (decode file) (seat .place) from) (offset : o ≡ deckAt file b .offset)
     (moved : place ≡ addOf q o) where
   pub sampled-is : Sampled file blocked seat b from q place out n
-  sampled-is = record { on = on; seat-within = within; sampled = sampled; moved = rw offset at moved; room = room }
+  sampled-is = record { at-sample = record { on = on; seat-within = within; sampled = sampled; moved = rw offset at moved }; room = room }
 
   pub putting-all : length out < 2 ^ 64 → Putting file blocked b from q place out n out n (from .polygon)
   putting-all l = record { some = seat; sampled = sampled-is; count-fits = l; left = λ other t. left-all (t .room) }
@@ -73,29 +72,29 @@ module _ {file blocked : List ℕ} {seat : Seat} {b : Blocks} {from : Candidate}
 
     on-here : OnPassedDeck file b here
     unfolding here
-    on-here = record { passed = t .on .passed; there = t .on .there; is = t .on .is; step = t .on .step; sample = t .on .sample }
+    on-here = record { passed = t .at-sample .on .passed; there = t .at-sample .on .there; is = t .at-sample .on .is; step = t .at-sample .on .step; sample = t .at-sample .on .sample }
 
     at-place : place ≡ seenBy file blocked seat .place here
     unfolding here sampleOn
-    at-place = t .moved ∙ ap (λ (p : Vec2). addOf p (deckAt file b .offset)) (t .sampled) ∙ seen-place file blocked seat here on-here
+    at-place = t .at-sample .moved ∙ ap (λ (p : Vec2). addOf p (deckAt file b .offset)) (t .at-sample .sampled) ∙ seen-place file blocked seat here on-here
 
     place-small : PointWithin 3015000 place
     unfolding here
-    place-small = subst (PointWithin 3015000) (sym at-place) (seen-within file blocked seat here on-here (t .seat-within) l .place-within)
+    place-small = subst (PointWithin 3015000) (sym at-place) (seen-within file blocked seat here on-here (t .at-sample .seat-within) l .place-within)
 
     module _ {r : Bool} (asked : r ≡ passesAt (deckAt file b) q k) where
       passes : r ≡ seenBy file blocked seat .passes here
       unfolding here sampleOn
-      passes = asked ∙ ap (λ (p : Vec2). passesAt (deckAt file b) p k) (t .sampled) ∙ seen-passes file blocked seat here on-here
+      passes = asked ∙ ap (λ (p : Vec2). passesAt (deckAt file b) p k) (t .at-sample .sampled) ∙ seen-passes file blocked seat here on-here
 
       later : List Candidate
-      later = passing (seenBy file blocked seat) (from .step) (from .deck) (from .sample) (k + 1) (b .polygons - (k + 1))
+      later = passingFrom file blocked seat b from (k + 1)
 
-      none-here : r ≡ false → passing (seenBy file blocked seat) (from .step) (from .deck) (from .sample) k (b .polygons - k) ≡ later
+      none-here : r ≡ false → passingFrom file blocked seat b from k ≡ later
       unfolding here later
       none-here z = passing-more-no (seenBy file blocked seat) (from .step) (from .deck) (from .sample) k (b .polygons) l (sym passes ∙ z)
 
-      one-here : r ≡ true → passing (seenBy file blocked seat) (from .step) (from .deck) (from .sample) k (b .polygons - k) ≡ (here ∷ []) ++ later
+      one-here : r ≡ true → passingFrom file blocked seat b from k ≡ (here ∷ []) ++ later
       unfolding here later
       one-here y = passing-more-yes (seenBy file blocked seat) (from .step) (from .deck) (from .sample) k (b .polygons) l (sym passes ∙ y)
 
@@ -111,7 +110,7 @@ module _ {file blocked : List ℕ} {b : Blocks} {from : Candidate} {q place : Ve
   putting-long = h .left (h .some) (h .sampled) .long
 
   pub putting-none : {seat : Seat} → Sampled file blocked seat b from q place out₀ n → b .polygons ≤ k
-      → Written (seenBy file blocked seat) (passing (seenBy file blocked seat) (from .step) (from .deck) (from .sample) (from .polygon) (b .polygons - from .polygon)) out₀ n out next
+      → Written (seenBy file blocked seat) (passingFrom file blocked seat b from (from .polygon)) out₀ n out next
   putting-none {seat} t l = left-none (same-left (passing-none (seenBy file blocked seat) (from .step) (from .deck) (from .sample) k (b .polygons) l) (h .left seat t))
 
   module _ (l : k < b .polygons) where
@@ -119,10 +118,10 @@ module _ {file blocked : List ℕ} {b : Blocks} {from : Candidate} {q place : Ve
     putting-place = place-small (h .sampled) k l
 
     pub putting-deck : from .deck < 256
-    putting-deck = omega (arith, h .sampled .on .there, decks-range file (h .sampled .on .passed .passed) .1)
+    putting-deck = omega (arith, h .sampled .at-sample .on .there, decks-range file (h .sampled .at-sample .on .passed .passed) .1)
 
     pub putting-polygon : k < 2 ^ 24
-    putting-polygon = omega (arith, sound (h .sampled .on .passed) .few-polygons)
+    putting-polygon = omega (arith, sound (h .sampled .at-sample .on .passed) .few-polygons)
 
     pub polygon-fits : Fits w64 (k + 1)
     polygon-fits = record { fits = omega (arith, putting-polygon) }
@@ -156,8 +155,8 @@ module _ {file blocked : List ℕ} {b : Blocks} {from : Candidate} {q place : Ve
 pub ruleset putting = (sampled-is, putting-all, putting-long, putting-none, putting-place, putting-deck, putting-polygon, polygon-fits, putting-no, putting-room, next-fits, putting-yes)
 
 -- ---- `put_turn`
-module _ {file : List ℕ} {seat : Seat} {s d : ℕ} {b : Blocks} {o around : Vec2} {reach : Float} {hit : Hit} (there : d < decksIn file) (is : b ≡ blocksAt file d)
-    (offset : o ≡ deckAt file b .offset) (moved : around ≡ subOf (seat .place) o) (reached : reach ≡ decode file .reach) (turned : hit ≡ deckTurn (deckAt file b) around reach s) where
+module _ (file : List ℕ) (seat : Seat) (s d : ℕ) {b : Blocks} {o around : Vec2} {reach : Float} {hit : Hit} (turned : hit ≡ deckTurn (deckAt file b) around reach s)
+    (moved : around ≡ subOf (seat .place) o) (offset : o ≡ deckAt file b .offset) (reached : reach ≡ decode file .reach) (is : b ≡ blocksAt file d) (there : d < decksIn file) where
   turn-seen : (blocked : List ℕ) → hit ≡ turn (seenBy file blocked seat) s d
   turn-seen blocked = around-is file (seat .place) b s offset moved reached turned ∙ seen-turn file blocked seat there is s
 
@@ -184,9 +183,13 @@ module _ {file : List ℕ} {seat : Seat} {s d : ℕ} {b : Blocks} {o around : Ve
         → 12 * (n + length (passing (seenBy file blocked seat) s d i k (b .polygons - k))) ≤ length out
     turn-room blocked out n room = rw (gives blocked) room
 
-    pub turn-hit : {blocked out out′ : List ℕ} {n next : ℕ} → Written (seenBy file blocked seat) (passing (seenBy file blocked seat) s d i k (b .polygons - k)) out n out′ next
-        → Written (seenBy file blocked seat) (given (seenBy file blocked seat) s d (turn (seenBy file blocked seat) s d)) out n out′ next
-    turn-hit {blocked} {out} {out′} {n} {next} w = subst (λ (l : List Candidate). Written (seenBy file blocked seat) l out n out′ next) (gives blocked) w
+pub turn-hit : (file blocked : List ℕ) (seat : Seat) (s d : ℕ) {b : Blocks} {i k : ℕ} {o around : Vec2} {reach : Float} {hit : Hit} {out out′ : List ℕ} {n next : ℕ}
+    → Written (seenBy file blocked seat) (passing (seenBy file blocked seat) s d i k (b .polygons - k)) out n out′ next
+    → hit ≡ At i k → hit ≡ deckTurn (deckAt file b) around reach s → around ≡ subOf (seat .place) o → o ≡ deckAt file b .offset → reach ≡ decode file .reach
+    → b ≡ blocksAt file d → d < decksIn file
+    → Written (seenBy file blocked seat) (given (seenBy file blocked seat) s d (turn (seenBy file blocked seat) s d)) out n out′ next
+turn-hit file blocked seat s d {out = out} {out′} {n} {next} w e turned moved offset reached is there =
+    subst (λ (l : List Candidate). Written (seenBy file blocked seat) l out n out′ next) (gives file seat s d turned moved offset reached is there e blocked) w
 
 pub ruleset turns = (turn-missed, turn-on, turn-room, turn-hit)
 

@@ -35,7 +35,7 @@ same-length : tie.Need-same-length
 same-length c = search (turns, needs)
 
 returns-2 : tie.Need-returns-2
-returns-2 c = search (turns, needs)
+returns-2 c = search (turns, c .before .before .before .before .before .before .before .before .before .before .before .before .before .before .before .pre .1 .0, needs)
 
 pub put-turn-spec : {M : Type 1} → statement M
 put-turn-spec =
