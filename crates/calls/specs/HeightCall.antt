@@ -38,6 +38,11 @@ question17Height file polygon = eqb polygon allOnes || ltb (packedDeck polygon) 
 unfoldable pub question18 : List ℕ → ℕ → Bool
 question18 file polygon = eqb polygon allOnes || ltb (packedPolygon polygon) (length (deckOf (decode file) (packedDeck polygon) .polygons))
 
+-- the questions in order: those of the place and the polygon, then 20 for this very answer
+unfoldable pub heightQuery : List ℕ → Vec2 → ℕ → FileCheck
+heightQuery file p polygon =
+    after (firstNo file) (ask (question16 p) 16 (ask (question17Height file polygon) 17 (ask (question18 file polygon) 18 Passed)))
+
 unfoldable pub heightCheck : List ℕ → Vec2 → ℕ → ℕ → FileCheck
 heightCheck file p polygon room =
     after (firstNo file)

@@ -1,18 +1,19 @@
 // The calls that answer one query: the closest points on the decks, and the height at a place (document 01, sections 5 and 6).
 ghost use mathlib.Core.Path.{_≡_};
 ghost use mathlib.Core.List.{_++_};
-ghost use Prim.Native.Nat.{_+_, _-_, _*_, _≤_, _<_};
+ghost use Prim.Native.Nat.{_+_, _-_, _*_, _^_, _≤_, _<_};
 ghost use lib.ListN.{length, drop};
-ghost use Rattle.geometry.specs.Bounds.{PointWithin};
+ghost use Rattle.geometry.specs.Bounds.{PointWithin, HeightWithin};
 ghost use Rattle.words.specs.Bytes.{joined, splice};
 ghost use Rattle.ring.specs.Table.{directions};
 ghost use Rattle.ship.specs.Blocks.{decksIn};
 ghost use Rattle.ship.specs.Floats.{inSize};
+ghost use Rattle.ship.specs.declared.FileCheck.the-variants.{Passed};
 ghost use Rattle.survey.specs.Search.{turn, given, passing, candidates};
 ghost use Rattle.placing.specs.Sees.{seenBy, OnPassedDeck, SearchReady};
 ghost use Rattle.calls.specs.Answers.{question16, question17};
 ghost use Rattle.calls.specs.Closest.{askedAt, entryBytes, candidateBytes, Written, queryCheck, closestPoints, closestPoint, closestAnswer, closestOutput};
-ghost use Rattle.calls.specs.HeightCall.{heightAnswer, heightOutput};
+ghost use Rattle.calls.specs.HeightCall.{heightCall, heightQuery, heightAnswer, heightOutput};
 use geometry::Height;
 use geometry::Vec2;
 use placing::Placement;
@@ -106,14 +107,13 @@ fn put_passing(
     let q = placing::sample_on(file, table, seat.place, b, from);
     let place = geometry::add(q, decks::offset(file, b));
     let polygons = b.polygons;
-    let deck = from.deck;
     let mut written = n;
     let mut k = from.polygon;
     'polygons: while k < polygons {
         let polygon = k;
         k += 1;
         if search::point_in_polygon(file, b, polygon, q) {
-            put_candidate(out, written, decks::packed(deck, polygon), place);
+            put_candidate(out, written, decks::packed(from.deck, polygon), place);
             written += 1;
         }
     }
@@ -156,12 +156,13 @@ fn put_step(file: &[u8], blocked: &[u8], table: &[i32; 2432], seat: Seat, s: usi
     ensures { λ r. ⌜ now (out .exit) ≡ joined (candidateBytes (seenBy (now (file .entry)) (now (blocked .entry)) seat)) (candidates (seenBy (now (file .entry)) (now (blocked .entry)) seat) s) ++ drop (12 * length (candidates (seenBy (now (file .entry)) (now (blocked .entry)) seat) s)) (now (out .entry)) ⌝ }
 {
     let decks = decks::deck_count(file);
+    let choice = seat.choice;
     let mut n: usize = 0;
     let mut d: usize = 0;
     'decks: while d < decks {
         let deck = d;
         d += 1;
-        if survey::is_open(blocked, seat.choice, deck) {
+        if survey::is_open(blocked, choice, deck) {
             n = put_turn(file, blocked, table, seat, s, deck, out, n);
         }
     }
@@ -227,31 +228,53 @@ pub fn get_closest_point_on_layers(
     }
 }
 
+// Questions 1 to 18 of a place and a packed polygon.
+fn height_check(file: &[u8], p: Vec2, polygon: u32) -> FileCheck
+    ensures { λ r. ⌜ r ≡ heightQuery (now (file .entry)) p polygon ⌝ }
+{
+    match ship::first_no(file) {
+        FileCheck::No(number) => return FileCheck::No(number),
+        FileCheck::Passed => {}
+    }
+    if !place_in_size(p) {
+        return FileCheck::No(16);
+    }
+    if polygon == 0xFFFF_FFFF {
+        return FileCheck::Passed;
+    }
+    let d = decks::packed_deck(polygon);
+    if d >= decks::deck_count(file) {
+        return FileCheck::No(17);
+    }
+    let b = decks::deck_blocks(file, d);
+    if decks::packed_polygon(polygon) >= b.polygons {
+        return FileCheck::No(18);
+    }
+    FileCheck::Passed
+}
+
+// The height at a place and of a polygon that passed them.
+fn height_asked(file: &[u8], p: Vec2, polygon: u32) -> Height
+    requires { ⌜ heightQuery (now file) p polygon ≡ Passed ⌝ }
+    ensures { λ r. ⌜ (r ≡ heightCall (now (file .entry)) p polygon) × HeightWithin (2 ^ 121) r ⌝ }
+{
+    if polygon == 0xFFFF_FFFF {
+        return Height::None;
+    }
+    let b = decks::deck_blocks(file, decks::packed_deck(polygon));
+    search::height_at(file, b, decks::packed_polygon(polygon), p)
+}
+
 // The height at a place of a packed polygon, as one entry of its bits, or no entry.
 pub fn height(file: &[u8], p: Vec2, polygon: u32, out: &mut [u8]) -> Answer
     ensures answer { λ r. ⌜ r ≡ heightAnswer (now (file .entry)) p polygon (now (out .entry)) ⌝ }
     ensures output { λ r. ⌜ now (out .exit) ≡ heightOutput (now (file .entry)) p polygon (now (out .entry)) ⌝ }
 {
-    match ship::first_no(file) {
+    match height_check(file, p, polygon) {
         FileCheck::No(number) => return Answer::Refused(number),
         FileCheck::Passed => {}
     }
-    if !place_in_size(p) {
-        return Answer::Refused(16);
-    }
-    if polygon == 0xFFFF_FFFF {
-        return Answer::Wrote(0);
-    }
-    let d = decks::packed_deck(polygon);
-    if d >= decks::deck_count(file) {
-        return Answer::Refused(17);
-    }
-    let b = decks::deck_blocks(file, d);
-    let k = decks::packed_polygon(polygon);
-    if k >= b.polygons {
-        return Answer::Refused(18);
-    }
-    match search::height_at(file, b, k, p) {
+    match height_asked(file, p, polygon) {
         Height::None => Answer::Wrote(0),
         Height::Known(h) => {
             if out.len() < 4 {

@@ -1,0 +1,66 @@
+-- Two comparisons, with -1,000,000 and with 1,000,000, ask what question 16 asks, of every float: a NaN fails both, and each infinity one.
+use Prim.Native.Nat.{ℕ, _+_, _*_, _≤_, _<_}
+use mathlib.Core.Path.{_≡_, refl, _∙_}
+use mathlib.Core.Bool.{Bool, true, false, _&&_, _||_, and-true}
+use mathlib.Core.Logic.{⊎-elim}
+use native.Mathlib.Omega.{arith}
+use native.Mathlib.Nat.{mul-one}
+use lib.Dec.{ltb, leb, eqb}
+use lib.IntN.{ℤ}
+use lib.Ieee.{Float, nan, inf, fin, up, down, binary32, ofBits, neg, lt, le, eq}
+use lib.Ieee.Fits.{down-pos}
+use borrow.Author.Tests.{lt-ltb, le-ltb, le-leb, lt-leb, eq-eqb, ne-eqb}
+use Rattle.ship.specs.Floats.{sizeAtMost, inSize}
+use Rattle.survey.proofs.Members.{three}
+
+abbrev million : Float
+million = ofBits binary32 0x49742400
+
+-- below or level is at most
+at-most : (a b : ℕ) → (ltb a b || (eqb a b && true)) ≡ leb a b
+at-most a b =
+    ⊎-elim (λ l. simp (lt-ltb a b l, le-leb a b (omega arith)))
+    (⊎-elim (λ e. simp (le-ltb a b (omega arith), eq-eqb a b e, le-leb a b (omega arith)))
+    (λ g. simp (le-ltb a b (omega arith), ne-eqb a b (omega arith), lt-leb a b g)))
+    (three a b)
+
+at-most-back : (a b : ℕ) → (ltb a b || (eqb b a && true)) ≡ leb a b
+at-most-back a b =
+    ⊎-elim (λ l. simp (lt-ltb a b l, le-leb a b (omega arith)))
+    (⊎-elim (λ e. simp (le-ltb a b (omega arith), eq-eqb b a (omega arith), le-leb a b (omega arith)))
+    (λ g. simp (le-ltb a b (omega arith), ne-eqb b a (omega arith), lt-leb a b g)))
+    (three a b)
+
+module _ (m : ℕ) (e : ℤ) where
+  not-below : le (neg million) (fin false m e) ≡ true
+  unfolding le lt eq neg ofBits
+  not-below = let d = down-pos e in simp (lt-ltb 0 (1000000 * down e + m * up e * 1) (omega arith))
+
+  not-above : le (fin true m e) million ≡ true
+  unfolding le lt eq ofBits
+  not-above = let d = down-pos e in simp (lt-ltb 0 (m * up e * 1 + 1000000 * down e) (omega arith))
+
+  high-side : le (fin false m e) million ≡ leb (m * up e) (1000000 * down e)
+  unfolding le lt eq ofBits
+  high-side = rw mul-one (at-most (m * up e) (1000000 * down e))
+
+  low-side : le (neg million) (fin true m e) ≡ leb (m * up e) (1000000 * down e)
+  unfolding le lt eq neg ofBits
+  low-side = rw mul-one (at-most-back (m * up e) (1000000 * down e))
+
+both-sides : (x : Float) → (le (neg million) x && le x million) ≡ inSize x
+unfolding le lt eq neg ofBits sizeAtMost
+both-sides nan = refl
+both-sides (inf true) = refl
+both-sides (inf false) = refl
+both-sides (fin false m e) = rw (not-below m e) (high-side m e)
+both-sides (fin true m e) = rw (not-above m e, and-true) (low-side m e)
+
+module _ (x : Float) where
+  pub size-low : le (neg million) x ≡ false → le (neg million) x ≡ inSize x
+  size-low t = t ∙ (rw t at (both-sides x))
+
+  pub size-high : le (neg million) x ≡ true → le x million ≡ inSize x
+  size-high t = rw t at (both-sides x)
+
+pub ruleset million-tests = (size-low, size-high)
