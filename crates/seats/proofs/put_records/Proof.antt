@@ -53,7 +53,7 @@ seats-again c =
       (
         search needs,
         recording-more (inv .1 .1) (turn .seats-test .taken) (inv .1 .0) (seated .seat-at .ensures .0) (placed .place-seat .ensures .0) (recorded .record-words .ensures)
-        (written .put-words .ensures),
+            (written .put-words .ensures),
       ),
     )
 
