@@ -5,3 +5,4 @@ pub mod Backward
 pub mod Ways
 pub mod Parts
 pub mod Examples
+pub mod InputParts

@@ -1,5 +1,6 @@
 // The lines of `seatlist` as bytes (document 01, section 7), and question 21.
 ghost use mathlib.Core.Path.{_≡_};
+ghost use mathlib.Core.Bool.{true};
 ghost use mathlib.Core.Bool.{cond};
 ghost use mathlib.Core.List.{_++_};
 ghost use Prim.Native.Nat.{_+_, _*_, _/_, _%_, _^_, _≤_, _<_};
@@ -7,6 +8,7 @@ ghost use lib.ListN.{length};
 ghost use Rattle.lines.specs.Text.{decimal, hex, Put};
 ghost use Rattle.lines.specs.Text.{glyph as Text·glyph};
 ghost use Rattle.lines.specs.Lines.{rowAt, placedFields, noneFields, heightField, field, isUnplaced, seatLine, endLine, refusedLine};
+ghost use Rattle.words.specs.Bytes.{u32At};
 ghost use Rattle.lines.specs.Input.{question21};
 use words::u32_at;
 
@@ -34,6 +36,14 @@ pub fn input_allowed(input: &[u8]) -> bool
         return false;
     }
     words::size_at(input, 0) + 36 <= input.len()
+}
+
+// Where the file ends in an input that passed it; the blocked set and the seats follow.
+pub fn file_end(input: &[u8]) -> usize
+    requires { ⌜ question21 (now input) ≡ true ⌝ }
+    ensures { λ r. ⌜ (r ≡ 4 + u32At (now (input .entry)) 0) × ((4 ≤ r) × (r + 32 ≤ length (now (input .entry)))) ⌝ }
+{
+    4 + words::size_at(input, 0)
 }
 
 fn put_bytes(text: &mut [u8], at: usize, bytes: &[u8]) -> usize

@@ -1,4 +1,6 @@
 // Standard input to lines (document 01, section 7): file length, file, blocked set and seats in, a line a seat out.
+ghost use Prim.Native.Nat.{_*_, _+_, _≤_};
+ghost use lib.ListN.{length};
 use calls::Answer;
 use libc::STDIN_FILENO;
 use libc::STDOUT_FILENO;
@@ -6,47 +8,77 @@ use libc::STDOUT_FILENO;
 fn print_refused(number: u32) {
     let mut text = [0u8; 128];
     let n = lines::refused_line(number, &mut text);
-    io::write_all(STDOUT_FILENO, &text[..n]);
+    io::write_all(STDOUT_FILENO, &text[0..n]);
 }
 
-// A line for each of the first `count` records, and the last line.
-fn print_records(records: &[u8], count: usize) {
-    let mut text = [0u8; 128];
+fn count_placed(records: &[u8], count: u32) -> u32
+    requires { ⌜ 36 * count ≤ length (now records) ⌝ }
+    ensures { λ r. ⌜ r ≤ count ⌝ }
+{
     let mut placed: u32 = 0;
-    let mut i: usize = 0;
+    let mut i: u32 = 0;
     'seats: while i < count {
-        if words::u32_at(records, 36 * i) != 0xFFFF_FFFF {
+        let seat = i as usize;
+        i += 1;
+        if words::u32_at(records, 36 * seat) != 0xFFFF_FFFF {
             placed += 1;
         }
-        let n = lines::seat_line(records, i as u32, &mut text);
-        io::write_all(STDOUT_FILENO, &text[..n]);
-        i += 1;
     }
-    let n = lines::end_line(placed, count as u32 - placed, &mut text);
-    io::write_all(STDOUT_FILENO, &text[..n]);
+    placed
 }
 
-// The run on an input that passed question 21. Its 65,536 bytes hold at most 3,275 seats.
-fn run(input: &[u8], file_end: usize) {
+fn print_seats(records: &[u8], count: u32)
+    requires { ⌜ 36 * count ≤ length (now records) ⌝ }
+{
+    let mut i: u32 = 0;
+    'seats: while i < count {
+        let mut text = [0u8; 128];
+        let n = lines::seat_line(records, i, &mut text);
+        io::write_all(STDOUT_FILENO, &text[0..n]);
+        i += 1;
+    }
+}
+
+fn print_end(placed: u32, unplaced: u32) {
+    let mut text = [0u8; 128];
+    let n = lines::end_line(placed, unplaced, &mut text);
+    io::write_all(STDOUT_FILENO, &text[0..n]);
+}
+
+fn print_records(records: &[u8], count: u32)
+    requires { ⌜ 36 * count ≤ length (now records) ⌝ }
+{
+    print_seats(records, count);
+    let placed = count_placed(records, count);
+    print_end(placed, count - placed);
+}
+
+// The run on the parts of an input. An input of 65,536 bytes holds at most 3,275 seats.
+fn run(file: &[u8], blocked: &[u8], seats: &[u8]) {
     let mut records = [0u8; 117900];
-    let blocked_end = file_end + 32;
-    let file = &input[4..file_end];
-    let blocked = &input[file_end..blocked_end];
-    let seats = &input[blocked_end..];
     match seats::run(file, blocked, seats, &mut records) {
         Answer::Refused(number) => print_refused(number),
-        Answer::Wrote(count) => print_records(&records, count),
+        Answer::Wrote(count) => print_records(&records, count as u32),
     }
+}
+
+fn run_input(input: &[u8]) {
+    if !lines::input_allowed(input) {
+        print_refused(21);
+        return;
+    }
+    let file_end = lines::file_end(input);
+    let blocked_end = file_end + 32;
+    run(
+        &input[4..file_end],
+        &input[file_end..blocked_end],
+        &input[blocked_end..],
+    );
 }
 
 fn main() {
     // one byte more than is allowed, so that a longer input shows
     let mut buffer = [0u8; 65537];
     let n = io::read_full(STDIN_FILENO, &mut buffer);
-    let input = &buffer[..n];
-    if lines::input_allowed(input) {
-        run(input, 4 + words::size_at(input, 0));
-    } else {
-        print_refused(21);
-    }
+    run_input(&buffer[0..n]);
 }

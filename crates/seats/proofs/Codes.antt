@@ -26,6 +26,7 @@ use Rattle.geometry.specs.declared.Height.the-variants.{Known, None}
 use Rattle.ship.specs.Questions.{ask, after}
 use Rattle.seats.specs.Run.{runCheck, runAnswer}
 use Rattle.seats.specs.Survey.{Surveyed}
+use Rattle.seats.proofs.SeatFacts.{run-yes}
 
 pub fitting : {a : Answer} {n : ℕ} → a ≡ Wrote n → AnswerFits a → n < 2 ^ 63
 fitting {a} {n} e f = subst AnswerFits e f
@@ -88,3 +89,14 @@ height-fits file p polygon out {r} e = subst AnswerFits (sym e) (go (heightCheck
     go Passed (Known h) = omega arith
     go Passed None = omega arith
     go (No number) h = tt
+
+-- what a run wrote lies inside the output
+pub run-room : (file blocked seats out : List ℕ) {r : Answer} {n : ℕ} → r ≡ runAnswer file blocked seats out → r ≡ Wrote n → 36 * n ≤ length out
+unfolding runAnswer question20
+run-room file blocked seats out {r} {n} e f = go (runCheck file blocked seats (length out)) refl (sym e ∙ f)
+  where
+    go : (c : FileCheck) → runCheck file blocked seats (length out) ≡ c → answerOf c (length seats / 20) ≡ Wrote n → 36 * n ≤ length out
+    go Passed p w =
+        let same : length seats / 20 ≡ n = cc in
+        omega (arith, leb-true (36 * (length seats / 20)) (length out) (run-yes file blocked seats (length out) p .yes20))
+    go (No number) p w = let z : _≡_ {A = ℕ} 0 1 = cc in absurd (omega arith)
