@@ -33,7 +33,6 @@ use Rattle.placing.specs.declared.Placement.the-variants.{Unplaced, PlacedAt}
 use Rattle.placing.specs.Sees.{view, seenBy, SearchReady}
 use Rattle.placing.specs.Tally.{placementAt, placementOf, PlacementWithin}
 use Rattle.placing.proofs.Numbers.{placed-within}
-use Rattle.calls.specs.declared.Answer.{Answer}
 use Rattle.calls.specs.declared.Answer.the-variants.{Refused, Wrote}
 use Rattle.calls.specs.Answers.{question20}
 use Rattle.calls.specs.Closest.{askedAt, foundIn, closestPoints, closestPoint, entryBytes, candidateBytes, queryCheck, closestCheck, closestAnswer, closestOutput}
@@ -108,7 +107,7 @@ module _ (file : List ℕ) (p : Vec2) (deck : ℕ) (blocked : List ℕ) {r : Fil
         none-output = written-output fits (rw e)
 
 -- ---- where the search of a seat without a wish ended
-pub record PlacedFirst (v : View) (S : ℕ) (p : Placed) : Type 0 where
+record PlacedFirst (v : View) (S : ℕ) (p : Placed) : Type 0 where
   pub all : foundIn (firstStep v 0 S) ≡ candidates v (p .candidate .step)
   pub first : take 1 (foundIn (firstStep v 0 S)) ≡ p .candidate ∷ []
   pub count : p .candidates ≡ length (foundIn (firstStep v 0 S))

@@ -1,16 +1,13 @@
 -- The questions of a call: from what the calls returned and the tests found to the answer, and from a passed query to what a search needs.
 use Prim.Native.Nat.{ℕ}
-use mathlib.Core.Path.{_≡_, refl, sym, ap, _∙_, subst}
+use mathlib.Core.Path.{_≡_, refl, sym, ap, _∙_}
 use mathlib.Core.Bool.{Bool, true, false, _&&_}
 use mathlib.Core.List.{List}
-use native.Mathlib.Omega.{arith}
 use lib.Dec.{eqb, ltb}
-use lib.IntN.{ℤ}
 use lib.ListN.{length}
 use borrow.Author.Tests.{eq-eqb, ne-eqb, eqb-true}
 use Rattle.geometry.specs.declared.Vec2.{Vec2}
 use Rattle.geometry.specs.Bounds.{PointWithin}
-use Rattle.ring.specs.Table.{directions}
 use Rattle.ship.specs.declared.FileCheck.{FileCheck}
 use Rattle.ship.specs.declared.FileCheck.the-variants.{Passed, No}
 use Rattle.ship.specs.Blocks.{decksIn}
@@ -21,8 +18,7 @@ use Rattle.ship.proofs.FloatBits.{size-within}
 use Rattle.survey.specs.declared.DeckChoice.{DeckChoice}
 use Rattle.survey.specs.declared.Wish.the-variants.{NoWish}
 use Rattle.survey.proofs.Members.{holds}
-use Rattle.placing.specs.declared.Seat.{Seat}
-use Rattle.placing.specs.Sees.{choiceOf, SearchReady}
+use Rattle.placing.specs.Sees.{choiceOf}
 use Rattle.calls.specs.Answers.{question14, question16, question17}
 use Rattle.calls.specs.Closest.{askedAt, queryCheck}
 
@@ -104,7 +100,6 @@ size-of-place p h =
 
 -- what a passed query says
 pub record QueryYes (file : List ℕ) (p : Vec2) (deck : ℕ) (blocked : List ℕ) : Type 0 where
-  pub check : queryCheck file p deck blocked ≡ Passed
   pub file-yes : firstNo file ≡ Passed
   pub blocked-long : length blocked ≡ 32
   pub place-within : PointWithin 1000000 p
@@ -115,4 +110,4 @@ query-yes {file} {p} {deck} {blocked} h =
     let f = after-yes (firstNo file) _ h in
     let b = asked-yes (question14 blocked) 14 _ (f .1) in
     let s = asked-yes (question16 p) 16 _ (b .1) in
-    record { check = h; file-yes = f .0; blocked-long = eqb-true (length blocked) 32 (b .0); place-within = size-of-place p (s .0) }
+    record { file-yes = f .0; blocked-long = eqb-true (length blocked) 32 (b .0); place-within = size-of-place p (s .0) }

@@ -34,6 +34,7 @@ returns c = search (turns, needs)
 same-length : tie.Need-same-length
 same-length c = search (turns, needs)
 
+-- the path is to d < decksIn in what `put_turn` requires, which `search` does not reach from here
 returns-2 : tie.Need-returns-2
 returns-2 c = search (turns, c .before .before .before .before .before .before .before .before .before .before .before .before .before .before .before .pre .1 .0, needs)
 
