@@ -1,0 +1,124 @@
+-- A call that writes, in its three ways: it is refused, its answer is too long for the output, or it writes. And what a caller learns from each.
+use Prim.Native.Nat.{ℕ, _+_, _*_, _^_, _≤_, _<_}
+use native.Mathlib.Omega.{arith}
+use mathlib.Core.Path.{_≡_, refl, sym, ap, _∙_, subst}
+use mathlib.Core.Bool.{Bool, true, false, not}
+use mathlib.Core.List.{List, [], _∷_, _++_}
+use lib.ListN.{length, drop, length-append, length-drop}
+use lib.IntN.{ℤ}
+use Rattle.answers.specs.declared.Check.{Check}
+use Rattle.answers.specs.declared.Check.the-variants.{Passed, No}
+use Rattle.answers.specs.declared.Answer.{Answer}
+use Rattle.answers.specs.declared.Answer.the-variants.{Refused, Wrote}
+use Rattle.answers.specs.Checks.{ask, after}
+use Rattle.answers.specs.Questions.{question20}
+use Rattle.answers.specs.Replies.{Reply, replyCheck, answerFor, outputFor, answerTo, outputTo, Replied, codeOf, AnswerFits, RepliedCode}
+use Rattle.answers.proofs.Asking.{said-no, said-yes, asked-yes, both-passed, q20-no, q20-yes, q20-short, q20-fits}
+
+-- ---- the check with 20
+module _ (reply : Reply) (room : ℕ) where
+  pub check-refused : {number : ℕ} → reply .check ≡ No number → replyCheck reply room ≡ No number
+  unfolding replyCheck
+  check-refused e = rw e
+
+  module _ (yes : reply .check ≡ Passed) where
+    pub check-short : room < length (reply .bytes) → replyCheck reply room ≡ No 20
+    unfolding replyCheck
+    check-short l = rw (yes, q20-no (length (reply .bytes)) room l)
+
+    pub check-passed : length (reply .bytes) ≤ room → replyCheck reply room ≡ Passed
+    unfolding replyCheck
+    check-passed l = rw (yes, q20-yes (length (reply .bytes)) room l)
+
+  pub passed-check : replyCheck reply room ≡ Passed → (reply .check ≡ Passed) × (length (reply .bytes) ≤ room)
+  unfolding replyCheck
+  passed-check e =
+      let a = both-passed (reply .check) _ e in
+      let b = asked-yes (question20 (length (reply .bytes)) room) 20 Passed (a .1) in
+      (a .0, q20-fits (length (reply .bytes)) room (b .0))
+
+-- ---- the three ways; r is what the call's own check returned
+module _ {reply : Reply} {out : List ℕ} {r : Check} (asked : r ≡ reply .check) where
+  pub replied-refused : {number : ℕ} → r ≡ No number → Replied reply out out (Refused number)
+  unfolding answerTo outputTo
+  replied-refused e = let c = check-refused reply (length out) (sym asked ∙ e) in record { answer-is = rw c; output-is = rw c }
+
+  module _ (yes : r ≡ Passed) where
+    pub replied-short : length out < length (reply .bytes) → Replied reply out out (Refused 20)
+    unfolding answerTo outputTo
+    replied-short l = let c = check-short reply (length out) (sym asked ∙ yes) l in record { answer-is = rw c; output-is = rw c }
+
+    pub replied-written : {out′ : List ℕ} {n : ℕ} → length (reply .bytes) ≤ length out → n ≡ reply .count → out′ ≡ reply .bytes ++ drop (length (reply .bytes)) out
+        → Replied reply out out′ (Wrote n)
+    unfolding answerTo outputTo
+    replied-written l e o = let c = check-passed reply (length out) (sym asked ∙ yes) l in record { answer-is = rw (c, e); output-is = rw c o }
+
+    pub replied-empty : reply .count ≡ 0 → reply .bytes ≡ [] → Replied reply out out (Wrote 0)
+    replied-empty n b = replied-written (rw b (omega arith)) (sym n) (rw b)
+
+-- 20 was asked by a call of `room_for`, of as many entries of one size
+module _ (reply : Reply) (out : List ℕ) (size count : ℕ) {fits : Bool} (long : length (reply .bytes) ≡ size * count)
+    (said : fits ≡ question20 (size * count) (length out)) where
+  pub room-short : not fits ≡ true → length out < length (reply .bytes)
+  room-short no-room = rw long (q20-short (size * count) (length out) (said-no said no-room))
+
+  pub room-fits : not fits ≡ false → length (reply .bytes) ≤ length out
+  room-fits room = rw long (q20-fits (size * count) (length out) (said-yes said room))
+
+pub ruleset replying = (replied-refused, replied-short, replied-written, replied-empty, room-short, room-fits)
+
+-- ---- what a caller learns
+pub output-length : (reply : Reply) (out : List ℕ) → length (outputTo reply out) ≡ length out
+unfolding outputTo
+output-length reply out = go (replyCheck reply (length out)) refl
+  where
+    go : (c : Check) → replyCheck reply (length out) ≡ c → length (outputFor c (reply .bytes) out) ≡ length out
+    go Passed e = let l = passed-check reply (length out) e .1 in simp (length-append, length-drop) (omega arith)
+    go (No number) e = refl
+
+module _ {reply : Reply} {out out′ : List ℕ} {r : Answer} (replied : Replied reply out out′ r) where
+  pub replied-length : length out′ ≡ length out
+  replied-length = ap length (replied .output-is) ∙ output-length reply out
+
+  -- the check that gave the answer, one way or the other
+  by-check : (P : Type 0) → ((replyCheck reply (length out) ≡ Passed) → (r ≡ Wrote (reply .count)) → (out′ ≡ reply .bytes ++ drop (length (reply .bytes)) out) → P)
+      → ((number : ℕ) → replyCheck reply (length out) ≡ No number → r ≡ Refused number → P) → P
+  unfolding answerTo outputTo
+  by-check P wrote refused = go (replyCheck reply (length out)) refl (replied .answer-is) (replied .output-is)
+    where
+      go : (c : Check) → replyCheck reply (length out) ≡ c → r ≡ answerFor c (reply .count) → out′ ≡ outputFor c (reply .bytes) out → P
+      go Passed e a o = wrote e a o
+      go (No number) e a o = refused number e a
+
+  pub wrote-check : {n : ℕ} → r ≡ Wrote n → (reply .check ≡ Passed) × (length (reply .bytes) ≤ length out)
+  wrote-check w =
+      by-check ((reply .check ≡ Passed) × (length (reply .bytes) ≤ length out)) (λ e a o. passed-check reply (length out) e)
+      (λ number e a. let z : _≡_ {A = ℕ} 0 1 = cc in absurd (omega arith))
+
+  pub wrote-count : {n : ℕ} → r ≡ Wrote n → n ≡ reply .count
+  wrote-count {n} w = by-check (n ≡ reply .count) (λ e a o. cc) (λ number e a. let z : _≡_ {A = ℕ} 0 1 = cc in absurd (omega arith))
+
+  pub wrote-bytes : {n : ℕ} → r ≡ Wrote n → out′ ≡ reply .bytes ++ drop (length (reply .bytes)) out
+  wrote-bytes w =
+      by-check (out′ ≡ reply .bytes ++ drop (length (reply .bytes)) out) (λ e a o. o)
+      (λ number e a. let z : _≡_ {A = ℕ} 0 1 = cc in absurd (omega arith))
+
+  -- a refusal where the output has room is the check's own
+  pub refused-check : {number : ℕ} → r ≡ Refused number → length (reply .bytes) ≤ length out → reply .check ≡ No number
+  unfolding replyCheck
+  refused-check {number} e l =
+      by-check (reply .check ≡ No number) (λ c a o. let z : _≡_ {A = ℕ} 0 1 = cc in absurd (omega arith))
+      (λ m c a. let same : m ≡ number = cc in go (reply .check) (rw (q20-yes (length (reply .bytes)) (length out) l) at c) same)
+    where
+      go : {m : ℕ} (c : Check) → after c Passed ≡ No m → m ≡ number → c ≡ No number
+      go Passed h same = let z : _≡_ {A = ℕ} 0 1 = cc in absurd (omega arith)
+      go (No k) h same = h ∙ ap No same
+
+  -- two bytes an entry are enough for the count to fit an i64
+  pub replied-fits : 2 * reply .count ≤ length (reply .bytes) → length out < 2 ^ 64 → AnswerFits r
+  replied-fits few long =
+      by-check (AnswerFits r) (λ e a o. subst AnswerFits (sym a) (omega (arith, passed-check reply (length out) e .1)))
+      (λ number e a. subst AnswerFits (sym a) tt)
+
+  pub replied-code : {z : ℤ} → z ≡ codeOf r → RepliedCode reply out out′ z
+  replied-code e = record { code-is = e ∙ ap codeOf (replied .answer-is); output-is = replied .output-is }
