@@ -1,4 +1,4 @@
--- What each way through a function of this crate shows: from what its calls returned and its matches found to what its contract says.
+-- `choice_of`, `is_open` and `prefers_height`: from what their calls returned and their tests found to what their contracts say.
 use mathlib.Core.Path.{_≡_}
 use mathlib.Core.Bool.{Bool, true, false, not}
 use mathlib.Core.List.{List}
@@ -6,15 +6,29 @@ use Prim.Native.Nat.{ℕ, _/_, _%_}
 use lib.Dec.{eqb}
 use lib.ListN.{getD}
 use lib.Ieee.{Float, lt}
+use borrow.Author.Tests.{eq-eqb, ne-eqb}
+use Rattle.words.specs.Bytes.{allOnes}
 use Rattle.geometry.specs.declared.Height.{Height}
 use Rattle.geometry.specs.declared.Height.the-variants.{Known, None}
 use Rattle.survey.specs.declared.DeckChoice.{DeckChoice}
 use Rattle.survey.specs.declared.DeckChoice.the-variants.{AnyDeck, Named}
 use Rattle.survey.specs.declared.Wish.{Wish}
 use Rattle.survey.specs.declared.Wish.the-variants.{NoWish, Wished}
-use Rattle.survey.specs.Wishes.{bitOf, isBlocked, isOpen, gapOf, nearer}
+use Rattle.survey.specs.Wishes.{choiceOf, bitOf, isBlocked, isOpen, gapOf, nearer}
 
--- ---- is_open
+-- ---- `choice_of`
+module _ {deck : ℕ} where
+  pub any-deck : deck ≡ allOnes → AnyDeck ≡ choiceOf deck
+  unfolding choiceOf
+  any-deck e = simp (eq-eqb _ _ e)
+
+  pub named-deck : (deck ≡ allOnes → ⊥) → Named deck ≡ choiceOf deck
+  unfolding choiceOf
+  named-deck n = simp (ne-eqb _ _ n)
+
+pub ruleset choices = (any-deck, named-deck)
+
+-- ---- `is_open`
 module _ (blocked : List ℕ) (d : ℕ) {choice : DeckChoice} where
   pub open-named : (n : ℕ) → choice ≡ Named n → eqb n d ≡ isOpen blocked choice d
   unfolding isOpen
@@ -26,7 +40,7 @@ module _ (blocked : List ℕ) (d : ℕ) {choice : DeckChoice} where
 
 pub ruleset opens = (open-named, open-any)
 
--- ---- prefers_height
+-- ---- `prefers_height`
 module _ (a b : Height) {wish : Wish} where
   pub no-wish : wish ≡ NoWish → false ≡ nearer wish a b
   unfolding nearer

@@ -1,5 +1,5 @@
--- Lists and sums made 'from number a on, n of them': what is in them, in which order, how long and how large they are.
-use Prim.Native.Nat.{ℕ, zero, suc, _+_, _*_, _≤_, _<_}
+-- Laws of `collect` and `sumOf`: a turn of a loop over them, what is in them, in which order, how long and how large they are.
+use Prim.Native.Nat.{ℕ, zero, suc, _+_, _*_, _-_, _≤_, _<_}
 use mathlib.Core.Path.{_≡_, refl, sym, ap, _∙_, subst}
 use mathlib.Core.Logic.{_⊎_, inl, inr, ⊎-elim}
 use mathlib.Core.List.{List, [], _∷_, _++_}
@@ -9,7 +9,7 @@ use native.Mathlib.Decide.{decLe}
 use native.Mathlib.Nat.{eq-or-lt-of-le}
 use lib.Dec.{T}
 use lib.ListN.{length, length-append}
-use Rattle.survey.specs.Survey.{sumBelow, howMany}
+use Rattle.words.specs.Rows.{collect, sumOf, howMany}
 
 -- ---- numbers
 pub three : (j i : ℕ) → (j < i) ⊎ (j ≡ i) ⊎ (i < j)
@@ -23,12 +23,46 @@ three j i = go (decLe j i)
 pub from-next : (P : ℕ → Type 0) (a k : ℕ) → P a → a ≤ k → (a + 1 ≤ k → P k) → P k
 from-next P a k h l later = ⊎-elim (λ q. subst P q h) (λ q. later (omega arith)) (eq-or-lt-of-le l)
 
+-- what is left of n from i on
+pub left : (n i : ℕ) → i < n → n - i ≡ suc (n - (i + 1))
+left n i h = omega arith
+
+pub none-left : (n i : ℕ) → n ≤ i → n - i ≡ 0
+none-left n i h = omega arith
+
 -- ---- tests
 pub holds : (b : Bool) → b ≡ true → T b
 holds b e = subst T (sym e) tt
 
 pub not-holds : (b : Bool) → b ≡ false → T b → ⊥
 not-holds b e t = subst T e t
+
+-- ---- a turn of a loop
+module _ {A : Type 0} (p : ℕ → Bool) (f : ℕ → List A) (i n : ℕ) where
+  pub collect-yes : i < n → p i ≡ true → collect p f i (n - i) ≡ f i ++ collect p f (i + 1) (n - (i + 1))
+  unfolding collect
+  collect-yes h e = rw (left n i, e)
+
+  pub collect-no : i < n → p i ≡ false → collect p f i (n - i) ≡ collect p f (i + 1) (n - (i + 1))
+  unfolding collect
+  collect-no h e = rw (left n i, e)
+
+  pub collect-none : n ≤ i → collect p f i (n - i) ≡ []
+  unfolding collect
+  collect-none h = rw (none-left n i)
+
+module _ (p : ℕ → Bool) (f : ℕ → ℕ) (i n : ℕ) where
+  pub sum-yes : i < n → p i ≡ true → sumOf p f i (n - i) ≡ f i + sumOf p f (i + 1) (n - (i + 1))
+  unfolding sumOf
+  sum-yes h e = rw (left n i, e)
+
+  pub sum-no : i < n → p i ≡ false → sumOf p f i (n - i) ≡ sumOf p f (i + 1) (n - (i + 1))
+  unfolding sumOf
+  sum-no h e = rw (left n i, e)
+
+  pub sum-none : n ≤ i → sumOf p f i (n - i) ≡ 0
+  unfolding sumOf
+  sum-none h = rw (none-left n i)
 
 -- ---- membership and order
 module _ {A : Type 0} where
@@ -61,11 +95,6 @@ module _ {A : Type 0} where
     λ y k. ⊎-elim (λ a. p .0 y a) (λ b. h x y (inl refl) b) (in-append y l m k),
     rising-append R l m (p .1) q (λ a b u w. h a b (inr u) w),
   )
-
-  -- the lists of those numbers that pass the test, one after the other
-  unfoldable pub collect : (ℕ → Bool) → (ℕ → List A) → ℕ → ℕ → List A
-  collect p f a zero = []
-  collect p f a (suc n) = let later = collect p f (a + 1) n in cond (p a) (f a ++ later) later
 
   module _ (p : ℕ → Bool) (f : ℕ → List A) where
     pub of-collect : (a n : ℕ) (x : A) → In x (collect p f a n) → (k : ℕ) × (a ≤ k) × (k < a + n) × T (p k) × In x (f k)
@@ -103,67 +132,50 @@ module _ {A : Type 0} where
             (λ x y u w. let q = of-collect (a + 1) n y w in apart a (q .0) x y (omega (arith, q .1)) u (q .4))
         go false r = r
 
--- ---- sums
--- the sum over those numbers that pass the test
-unfoldable pub sumFrom : (ℕ → Bool) → (ℕ → ℕ) → ℕ → ℕ → ℕ
-sumFrom p f a zero = 0
-sumFrom p f a (suc n) = let later = sumFrom p f (a + 1) n in cond (p a) (f a + later) later
-
-pub length-collect : {A : Type 0} (p : ℕ → Bool) (f : ℕ → List A) (a n : ℕ) → length (collect p f a n) ≡ sumFrom p (λ k. length (f k)) a n
-unfolding collect sumFrom
+-- ---- lengths and sums
+pub length-collect : {A : Type 0} (p : ℕ → Bool) (f : ℕ → List A) (a n : ℕ) → length (collect p f a n) ≡ sumOf p (λ k. length (f k)) a n
+unfolding collect sumOf
 length-collect p f a zero = refl
 length-collect p f a (suc n) = go (p a) (length-collect p f (a + 1) n)
   where
-    go : (b : Bool) → length (collect p f (a + 1) n) ≡ sumFrom p (λ k. length (f k)) (a + 1) n
-        → length (cond b (f a ++ collect p f (a + 1) n) (collect p f (a + 1) n)) ≡ cond b (length (f a) + sumFrom p (λ k. length (f k)) (a + 1) n) (sumFrom p (λ k. length (f k)) (a + 1) n)
+    go : (b : Bool) → length (collect p f (a + 1) n) ≡ sumOf p (λ k. length (f k)) (a + 1) n
+        → length (cond b (f a ++ collect p f (a + 1) n) (collect p f (a + 1) n)) ≡ cond b (length (f a) + sumOf p (λ k. length (f k)) (a + 1) n) (sumOf p (λ k. length (f k)) (a + 1) n)
     go true e = length-append (f a) (collect p f (a + 1) n) ∙ ap (λ (m : ℕ). length (f a) + m) e
     go false e = e
 
 module _ (p : ℕ → Bool) (f : ℕ → ℕ) where
-  -- with 0 at those that fail
-  abbrev pub part : ℕ → ℕ
-  part k = cond (p k) (f k) 0
-
-  below : (j k : ℕ) → j ≡ k → sumBelow part j ≡ sumBelow part k
-  below j k e = ap (sumBelow part) e
-
-  sum-from : (a n : ℕ) → sumBelow part (a + n) ≡ sumBelow part a + sumFrom p f a n
-  unfolding sumFrom sumBelow
-  sum-from a zero = omega (arith, below (a + 0) a (omega arith))
-  sum-from a (suc n) = omega (arith, below (a + suc n) (a + 1 + n) (omega arith), below (a + 1) (suc a) (omega arith), sum-from (a + 1) n, go (p a))
+  pub sum-bound : (b : ℕ) → ((k : ℕ) → f k ≤ b) → (i n : ℕ) → sumOf p f i n ≤ n * b
+  unfolding sumOf
+  sum-bound b h i zero = omega arith
+  sum-bound b h i (suc n) = go (p i) (sum-bound b h (i + 1) n)
     where
-      go : (b : Bool) → cond b (f a) 0 + sumFrom p f (a + 1) n ≡ cond b (f a + sumFrom p f (a + 1) n) (sumFrom p f (a + 1) n)
-      go true = refl
-      go false = omega arith
-
-  pub sum-all : (n : ℕ) → sumFrom p f 0 n ≡ sumBelow part n
-  unfolding sumBelow
-  sum-all n = omega (arith, below (0 + n) n (omega arith), sum-from 0 n)
-
-  pub sum-bound : (b : ℕ) → ((k : ℕ) → f k ≤ b) → (a n : ℕ) → sumFrom p f a n ≤ n * b
-  unfolding sumFrom
-  sum-bound b h a zero = omega arith
-  sum-bound b h a (suc n) = go (p a) (sum-bound b h (a + 1) n)
-    where
-      go : (t : Bool) → sumFrom p f (a + 1) n ≤ n * b → cond t (f a + sumFrom p f (a + 1) n) (sumFrom p f (a + 1) n) ≤ suc n * b
-      go true l = omega (arith, h a)
+      go : (t : Bool) → sumOf p f (i + 1) n ≤ n * b → cond t (f i + sumOf p f (i + 1) n) (sumOf p f (i + 1) n) ≤ suc n * b
+      go true l = omega (arith, h i)
       go false l = omega arith
 
   -- a sum is the same over summands that are, and is the number of summands times one of them where all are equal
-  pub sum-same : (g : ℕ → ℕ) (n : ℕ) → ((k : ℕ) → k < n → T (p k) → f k ≡ g k) → sumBelow part n ≡ sumBelow (λ k. cond (p k) (g k) 0) n
-  unfolding sumBelow
-  sum-same g zero h = refl
-  sum-same g (suc n) h = omega (arith, go (p n) refl, sum-same g n (λ k l. h k (omega arith)))
+  sum-same-from : (g : ℕ → ℕ) (i n : ℕ) → ((k : ℕ) → k < i + n → T (p k) → f k ≡ g k) → sumOf p f i n ≡ sumOf p g i n
+  unfolding sumOf
+  sum-same-from g i zero h = refl
+  sum-same-from g i (suc n) h = go (p i) refl (sum-same-from g (i + 1) n (λ k l. h k (omega arith)))
     where
-      go : (b : Bool) → p n ≡ b → cond b (f n) 0 ≡ cond b (g n) 0
-      go true e = h n (omega arith) (holds (p n) e)
-      go false e = refl
+      go : (b : Bool) → p i ≡ b → sumOf p f (i + 1) n ≡ sumOf p g (i + 1) n
+          → cond b (f i + sumOf p f (i + 1) n) (sumOf p f (i + 1) n) ≡ cond b (g i + sumOf p g (i + 1) n) (sumOf p g (i + 1) n)
+      go true e later = omega (arith, h i (omega arith) (holds (p i) e))
+      go false e later = later
 
-pub sum-equal : (p : ℕ → Bool) (b n : ℕ) → sumBelow (λ k. cond (p k) b 0) n ≡ howMany p n * b
-unfolding sumBelow
-sum-equal p b zero = omega arith
-sum-equal p b (suc n) = go (p n) (sum-equal p b n)
+  pub sum-same : (g : ℕ → ℕ) (n : ℕ) → ((k : ℕ) → k < n → T (p k) → f k ≡ g k) → sumOf p f 0 n ≡ sumOf p g 0 n
+  sum-same g n h = sum-same-from g 0 n (λ k l. h k (omega arith))
+
+sum-equal-from : (p : ℕ → Bool) (b i n : ℕ) → sumOf p (λ k. b) i n ≡ sumOf p (λ k. 1) i n * b
+unfolding sumOf
+sum-equal-from p b i zero = omega arith
+sum-equal-from p b i (suc n) = go (p i) (sum-equal-from p b (i + 1) n)
   where
-    go : (t : Bool) → sumBelow (λ k. cond (p k) b 0) n ≡ howMany p n * b → sumBelow (λ k. cond (p k) b 0) n + cond t b 0 ≡ (howMany p n + cond t 1 0) * b
+    go : (t : Bool) → sumOf p (λ k. b) (i + 1) n ≡ sumOf p (λ k. 1) (i + 1) n * b
+        → cond t (b + sumOf p (λ k. b) (i + 1) n) (sumOf p (λ k. b) (i + 1) n) ≡ cond t (1 + sumOf p (λ k. 1) (i + 1) n) (sumOf p (λ k. 1) (i + 1) n) * b
     go true e = omega arith
-    go false e = omega arith
+    go false e = e
+
+pub sum-equal : (p : ℕ → Bool) (b n : ℕ) → sumOf p (λ k. b) 0 n ≡ howMany p n * b
+sum-equal p b n = sum-equal-from p b 0 n
