@@ -1,6 +1,6 @@
 -- A turn of the loops over polygons and over samples, and what `tried` returns.
-use Prim.Native.Nat.{ℕ, _+_, _*_, _-_, _≤_, _<_, _^_}
-use mathlib.Core.Path.{_≡_}
+use Prim.Native.Nat.{ℕ, zero, suc, _+_, _*_, _-_, _≤_, _<_, _^_}
+use mathlib.Core.Path.{_≡_, refl}
 use mathlib.Core.Bool.{Bool, true, false}
 use native.Mathlib.Omega.{arith}
 use mir.Syntax.{w64}
@@ -22,6 +22,12 @@ module _ (passes : ℕ → ℕ → Bool) (i k n : ℕ) where
   pub polygon-hit-none : n ≤ k → polygonHit passes i k (n - k) ≡ Missed
   unfolding polygonHit
   polygon-hit-none h = rw (none-left n k)
+
+-- only what passes at sample i counts
+pub polygon-hit-same : (passes other : ℕ → ℕ → Bool) (i : ℕ) → ((k : ℕ) → passes i k ≡ other i k) → (k n : ℕ) → polygonHit passes i k n ≡ polygonHit other i k n
+unfolding polygonHit
+polygon-hit-same passes other i e k zero = refl
+polygon-hit-same passes other i e k (suc n) = rw (e k, polygon-hit-same passes other i e (k + 1) n)
 
 module _ (passes : ℕ → ℕ → Bool) (polygons i n : ℕ) where
   pub sample-hit-yes : (j k : ℕ) → i < n → polygonHit passes i 0 polygons ≡ At j k → sampleHit passes polygons i (n - i) ≡ At j k
