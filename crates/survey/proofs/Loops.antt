@@ -17,7 +17,7 @@ use Rattle.hits.specs.declared.Hit.the-variants.{At, Missed}
 use Rattle.hits.specs.Candidates.{candidate}
 use Rattle.hits.specs.Hits.{polygonHit, triedOf}
 use Rattle.survey.specs.View.{Shown, View}
-use Rattle.survey.specs.Search.{passesAt, turn, passing, given, turnGives, turnTried, candidates, triedIn, triedBefore, Nowhere, InStep, firstStep}
+use Rattle.survey.specs.Search.{passesOn, turn, passing, given, turnGives, turnTried, candidates, triedIn, triedBefore, Nowhere, InStep, firstStep}
 use Rattle.survey.proofs.Steps.{ring-next, HitIs, TurnIs, turn-is}
 
 -- ---- a turn of the loop over the steps
@@ -36,13 +36,13 @@ module _ (v : View) (s n : ℕ) where
 
 -- ---- the polygons that pass at a sample begin with the first that passes
 module _ (w : Shown) (s d i : ℕ) where
-  pub passing-missed : (k n : ℕ) → polygonHit (passesAt w s d) i k n ≡ Missed → passing w s d i k n ≡ []
+  pub passing-missed : (k n : ℕ) → polygonHit (passesOn w s d) i k n ≡ Missed → passing w s d i k n ≡ []
   unfolding polygonHit collect
   passing-missed k zero e = refl
-  passing-missed k (suc n) e = go (passesAt w s d i k) e (passing-missed (k + 1) n)
+  passing-missed k (suc n) e = go (passesOn w s d i k) e (passing-missed (k + 1) n)
     where
-      go : (b : Bool) → cond b (At i k) (polygonHit (passesAt w s d) i (k + 1) n) ≡ Missed
-          → (polygonHit (passesAt w s d) i (k + 1) n ≡ Missed → passing w s d i (k + 1) n ≡ [])
+      go : (b : Bool) → cond b (At i k) (polygonHit (passesOn w s d) i (k + 1) n) ≡ Missed
+          → (polygonHit (passesOn w s d) i (k + 1) n ≡ Missed → passing w s d i (k + 1) n ≡ [])
           → cond b (candidate s d i k ∷ passing w s d i (k + 1) n) (passing w s d i (k + 1) n) ≡ []
       go true q later = let z : _≡_ {A = ℕ} 0 1 = cc in absurd (omega arith)
       go false q later = later q
@@ -54,13 +54,13 @@ module _ (w : Shown) (s d i : ℕ) where
     pub below : l < k + n
     pub first : passing w s d i k n ≡ candidate s d i l ∷ passing w s d i (l + 1) (k + n - (l + 1))
 
-  pub passing-at : (k n j l : ℕ) → polygonHit (passesAt w s d) i k n ≡ At j l → PassingAt k n j l
+  pub passing-at : (k n j l : ℕ) → polygonHit (passesOn w s d) i k n ≡ At j l → PassingAt k n j l
   unfolding polygonHit collect
   passing-at k zero j l e = let z : _≡_ {A = ℕ} 0 1 = cc in absurd (omega arith)
-  passing-at k (suc n) j l e = go (passesAt w s d i k) refl e (passing-at (k + 1) n j l)
+  passing-at k (suc n) j l e = go (passesOn w s d i k) refl e (passing-at (k + 1) n j l)
     where
-      go : (b : Bool) → passesAt w s d i k ≡ b → cond b (At i k) (polygonHit (passesAt w s d) i (k + 1) n) ≡ At j l
-          → (polygonHit (passesAt w s d) i (k + 1) n ≡ At j l → PassingAt (k + 1) n j l) → PassingAt k (suc n) j l
+      go : (b : Bool) → passesOn w s d i k ≡ b → cond b (At i k) (polygonHit (passesOn w s d) i (k + 1) n) ≡ At j l
+          → (polygonHit (passesOn w s d) i (k + 1) n ≡ At j l → PassingAt (k + 1) n j l) → PassingAt k (suc n) j l
       go true p q later =
           let same : i ≡ j = cc in
           let here : k ≡ l = cc in
@@ -91,15 +91,15 @@ module _ (v : View) where
     none-before zero l = simp sub-zero
     none-before (suc j) l =
         none-before j (omega arith)
-        ∙ collect-no (passesAt (v .shown) s d i) _ j (v .shown .polygons d) (omega (arith, hit-polygon))
-        (is-false (passesAt (v .shown) s d i j) (hit-is .none-before j (omega arith)))
+        ∙ collect-no (passesOn (v .shown) s d i) _ j (v .shown .polygons d) (omega (arith, hit-polygon))
+        (is-false (passesOn (v .shown) s d i j) (hit-is .none-before j (omega arith)))
         ∙ ap (λ (m : ℕ). passing (v .shown) s d i m (v .shown .polygons d - m)) (add-one j)
 
     pub gives-hit : turnGives (v .shown) s d ≡ candidate s d i k ∷ passing (v .shown) s d i (k + 1) (v .shown .polygons d - (k + 1))
     gives-hit =
         ap (given (v .shown) s d) e
         ∙ none-before k (omega arith)
-        ∙ collect-yes (passesAt (v .shown) s d i) _ k (v .shown .polygons d) hit-polygon (is-true (passesAt (v .shown) s d i k) (hit-is .passes .1))
+        ∙ collect-yes (passesOn (v .shown) s d i) _ k (v .shown .polygons d) hit-polygon (is-true (passesOn (v .shown) s d i k) (hit-is .passes .1))
 
   -- ---- the numbers stay small
   given-bound : (s d : ℕ) (t : Hit) → length (given (v .shown) s d t) ≤ v .shown .polygons d
@@ -107,8 +107,8 @@ module _ (v : View) where
   given-bound s d (At i k) =
       omega (
         arith,
-        length-collect (passesAt (v .shown) s d i) (λ j. candidate s d i j ∷ []) 0 (v .shown .polygons d),
-        sum-bound (passesAt (v .shown) s d i) (λ j. 1) 1 (λ j. omega arith) 0 (v .shown .polygons d),
+        length-collect (passesOn (v .shown) s d i) (λ j. candidate s d i j ∷ []) 0 (v .shown .polygons d),
+        sum-bound (passesOn (v .shown) s d i) (λ j. 1) 1 (λ j. omega arith) 0 (v .shown .polygons d),
       )
 
   pub candidates-bound : (b : ℕ) → ((d : ℕ) → v .shown .polygons d ≤ b) → (s : ℕ) → length (candidates v s) ≤ v .decks * b

@@ -15,7 +15,7 @@ use Rattle.hits.specs.declared.Hit.the-variants.{At, Missed}
 use Rattle.hits.specs.Candidates.{candidate}
 use Rattle.survey.specs.View.{View}
 use Rattle.hits.specs.Hits.{orElse, polygonHit, sampleHit, triedOf}
-use Rattle.survey.specs.Search.{passesAt, turn, passing, given, turnGives, turnTried, candidates, triedIn, triedBefore, Found, Nowhere, InStep, stepOr, firstStep, recordOf, seatRecord}
+use Rattle.survey.specs.Search.{passesOn, turn, passing, given, turnGives, turnTried, candidates, triedIn, triedBefore, Found, Nowhere, InStep, stepOr, firstStep, recordOf, seatRecord}
 use Rattle.words.specs.Bytes.{allOnes}
 use Rattle.survey.specs.Survey.{Open, Passes, NoHitOn, FirstHit, IsCandidate, Earlier, openDecks, overOpen, samplesBelow, TriedOn, CandidatesOn}
 use Rattle.words.proofs.Collecting.{three, from-next, holds, not-holds, In, Rising, of-collect, in-collect, collect-rises, length-collect, sum-same, sum-equal}
@@ -77,7 +77,7 @@ module _ (v : View) where
   pub record HitIs (s d i k : ℕ) : Type 0 where
     pub first-hit : FirstHit v s d i
     pub passes : Passes v (candidate s d i k)
-    pub none-before : (j : ℕ) → j < k → T (passesAt (v .shown) s d i j) → ⊥
+    pub none-before : (j : ℕ) → j < k → T (passesOn (v .shown) s d i j) → ⊥
 
   abbrev pub TurnIs : ℕ → ℕ → Hit → Type 0
   TurnIs s d Missed = NoHitOn v s d
@@ -85,9 +85,9 @@ module _ (v : View) where
 
   pub turn-is : (s d : ℕ) → TurnIs s d (turn (v .shown) s d)
   unfolding turn
-  turn-is s d = go (turn (v .shown) s d) (sample-is (passesAt (v .shown) s d) (v .shown .polygons d) 0 (10 * s + 1))
+  turn-is s d = go (turn (v .shown) s d) (sample-is (passesOn (v .shown) s d) (v .shown .polygons d) 0 (10 * s + 1))
     where
-      go : (t : Hit) → SampleIs (passesAt (v .shown) s d) (v .shown .polygons d) 0 (10 * s + 1) t → TurnIs s d t
+      go : (t : Hit) → SampleIs (passesOn (v .shown) s d) (v .shown .polygons d) 0 (10 * s + 1) t → TurnIs s d t
       go Missed h = λ i l k q. h i (omega arith) (omega arith) k (q .0) (q .1)
       go (At i k) h =
           record {
@@ -114,9 +114,9 @@ module _ (v : View) where
   of-given : (s d : ℕ) (t : Hit) (c : Candidate) → TurnIs s d t → In c (given (v .shown) s d t) → (c .deck ≡ d) × (Open v d → IsCandidate v s c)
   of-given s d Missed c h m = absurd m
   of-given s d (At i k) c h m =
-      go (of-collect (passesAt (v .shown) s d i) (alone s d i) 0 (v .shown .polygons d) c m)
+      go (of-collect (passesOn (v .shown) s d i) (alone s d i) 0 (v .shown .polygons d) c m)
     where
-      go : (j : ℕ) × (0 ≤ j) × (j < 0 + v .shown .polygons d) × T (passesAt (v .shown) s d i j) × In c (alone s d i j)
+      go : (j : ℕ) × (0 ≤ j) × (j < 0 + v .shown .polygons d) × T (passesOn (v .shown) s d i j) × In c (alone s d i j)
           → (c .deck ≡ d) × (Open v d → IsCandidate v s c)
       go (j, l, m′, t, inl e) =
           subst (λ (x : Candidate). (x .deck ≡ d) × (Open v d → IsCandidate v s x)) (sym e)
@@ -127,12 +127,12 @@ module _ (v : View) where
   in-given s d i k Missed h f p = absurd (h i (f .in-ring) k p)
   in-given s d i k (At j l) h f p =
       subst (λ (j′ : ℕ). In (candidate s d i k) (passing (v .shown) s d j′ 0 (v .shown .polygons d))) (same-hit s d i j f (h .first-hit))
-      (in-collect (passesAt (v .shown) s d i) (alone s d i) 0 (v .shown .polygons d) k (candidate s d i k) (omega arith) (omega (arith, p .0)) (p .1) (inl refl))
+      (in-collect (passesOn (v .shown) s d i) (alone s d i) 0 (v .shown .polygons d) k (candidate s d i k) (omega arith) (omega (arith, p .0)) (p .1) (inl refl))
 
   given-rises : (s d : ℕ) (t : Hit) → Rising (Earlier v) (given (v .shown) s d t)
   given-rises s d Missed = tt
   given-rises s d (At i k) =
-      collect-rises (passesAt (v .shown) s d i) (alone s d i) (Earlier v) (λ j. (λ y n. absurd n, tt)) apart 0 (v .shown .polygons d)
+      collect-rises (passesOn (v .shown) s d i) (alone s d i) (Earlier v) (λ j. (λ y n. absurd n, tt)) apart 0 (v .shown .polygons d)
     where
       apart : (j k : ℕ) (x y : Candidate) → j < k → In x (alone s d i j) → In y (alone s d i k) → Earlier v x y
       apart j k x y l (inl e) (inl f) = inr (ap (λ (c : Candidate). c .deck) e ∙ sym (ap (λ (c : Candidate). c .deck) f), omega (arith, ap (λ (c : Candidate). c .polygon) e, ap (λ (c : Candidate). c .polygon) f))
@@ -155,7 +155,7 @@ module _ (v : View) where
           inr (
             i,
             h .first-hit,
-            length-collect (passesAt (v .shown) s d i) (alone s d i) 0 (v .shown .polygons d),
+            length-collect (passesOn (v .shown) s d i) (alone s d i) 0 (v .shown .polygons d),
           )
 
   -- ---- the candidates of a step

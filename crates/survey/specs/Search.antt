@@ -17,16 +17,16 @@ use Rattle.survey.specs.Record.{placedRecord}
 
 module _ (w : Shown) where
   -- whether polygon k passes at sample i of step s on deck d
-  abbrev pub passesAt : ℕ → ℕ → ℕ → ℕ → Bool
-  passesAt s d i k = w .passes (candidate s d i k)
+  abbrev pub passesOn : ℕ → ℕ → ℕ → ℕ → Bool
+  passesOn s d i k = w .passes (candidate s d i k)
 
   -- deck d's turn in step s
   unfoldable pub turn : ℕ → ℕ → Hit
-  turn s d = sampleHit (passesAt s d) (w .polygons d) 0 (10 * s + 1)
+  turn s d = sampleHit (passesOn s d) (w .polygons d) 0 (10 * s + 1)
 
   -- those of the n polygons from k on that pass there, in rising number
   abbrev pub passing : ℕ → ℕ → ℕ → ℕ → ℕ → List Candidate
-  passing s d i k n = collect (passesAt s d i) (λ j. candidate s d i j ∷ []) k n
+  passing s d i k n = collect (passesOn s d i) (λ j. candidate s d i j ∷ []) k n
 
   -- a hit gives all polygons that pass at its sample
   abbrev pub given : ℕ → ℕ → Hit → List Candidate
