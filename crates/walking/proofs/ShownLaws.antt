@@ -1,14 +1,15 @@
 -- What the decks of a passed file show, as the readers read it, and how large it is.
 use Prim.Native.Nat.{ℕ, _+_, _-_, _*_, _<_, _≤_, _^_}
 use mathlib.Core.Path.{_≡_, refl, sym, ap, _∙_, subst}
+use mathlib.Core.Bool.{Bool, true, false}
 use mathlib.Core.List.{List}
 use native.Mathlib.Omega.{arith}
 use mir.Syntax.{w64}
 use mir.Val.{Fits}
-use lib.ListN.{length}
+use lib.ListN.{length, List·getD-eq-default}
 use lib.Dec.{ltb}
-use lib.IntN.{ℤ}
 use lib.Ieee.{Float}
+use borrow.Author.Tests.{ltb-true, ltb-false}
 use Rattle.geometry.specs.declared.Vec2.{Vec2}
 use Rattle.geometry.specs.declared.Height.{Height}
 use Rattle.geometry.specs.Plane.{addOf, subOf}
@@ -21,11 +22,11 @@ use Rattle.hits.specs.declared.Hit.{Hit}
 use Rattle.hits.proofs.HitLoops.{polygon-hit-same}
 use Rattle.ship.specs.declared.Blocks.{Blocks}
 use Rattle.ship.specs.Blocks.{decksIn, blocksAt}
-use Rattle.ship.specs.Model.{Deck, deckOf}
+use Rattle.ship.specs.Model.{Deck, noDeck, deckOf}
 use Rattle.ship.specs.Decode.{deckAt, decode}
 use Rattle.ship.specs.Questions.{firstNo, DeckOfPassed}
 use Rattle.ship.proofs.Facts.{sound, decks-range}
-use Rattle.ship.proofs.ModelFacts.{polygons-length, offset-within, deck-of, decode-reach}
+use Rattle.ship.proofs.ModelFacts.{polygons-length, offset-within, decks-length, deck-of, decode-reach}
 use Rattle.survey.specs.Search.{turn}
 use Rattle.search.specs.OnDeck.{passesAt, deckTurn, nextHit, heightOn}
 use Rattle.search.proofs.HeightBound.{height-within}
@@ -85,6 +86,19 @@ pub ruleset shows = (turn-shown, sample-shown, polygon-there, place-shown, heigh
 -- ---- sizes
 pub deck-passed : {file : List ℕ} → firstNo file ≡ Passed → {d : ℕ} → d < decksIn file → DeckOfPassed file (blocksAt file d)
 deck-passed passed {d} there = record { number = d; there = there; is = refl; passed = passed }
+
+-- a deck that is not there has no polygons
+pub polygons-few : (file : List ℕ) → firstNo file ≡ Passed → (p : Vec2) (d : ℕ) → shownBy file p .polygons d ≤ 16777215
+unfolding shownFrom
+polygons-few file passed p d = go (ltb d (decksIn file)) refl
+  where
+    go : (b : Bool) → ltb d (decksIn file) ≡ b → length (deckOf (decode file) d .polygons) ≤ 16777215
+    go true e =
+        let there = ltb-true d (decksIn file) e in
+        rw (deck-of file d there, polygons-length file (blocksAt file d)) (sound (deck-passed passed there) .few-polygons)
+    go false e =
+        let past : length (decode file .decks) ≤ d = omega (arith, decks-length file, ltb-false d (decksIn file) e) in
+        rw (List·getD-eq-default (decode file .decks) noDeck past) (omega arith)
 
 module _ {file : List ℕ} {c : Candidate} (passed : firstNo file ≡ Passed) (on : CandidateIn file c) {p : Vec2} (within : PointWithin 1000000 p) where
   deck : DeckOfPassed file (blocksAt file (c .deck))
