@@ -3,4 +3,5 @@ pub mod Preference
 pub mod SurveyHolds
 pub mod SurveyUnique
 pub mod Loops
+pub mod Recorded
 pub mod SeatAsks

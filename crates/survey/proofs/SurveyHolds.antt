@@ -14,11 +14,8 @@ use Rattle.survey.specs.Record.{placedRecord}
 use Rattle.survey.specs.Survey.{NoHit, IsCandidate, Earlier, Prefers, Placed, SeatSurvey}
 use Rattle.words.proofs.Collecting.{In, Rising}
 use Rattle.survey.proofs.Preference.{MeasuredBelow, IsBest, best-is}
+use Rattle.survey.proofs.Recorded.{not-all-ones}
 use Rattle.survey.proofs.Steps.{tried-is, count-is, of-candidates, in-candidates, candidates-rise, how-many, no-hit, no-candidate, tried-before-is, StepIs, first-step-is}
-
--- a packed polygon of a deck that is there is not all ones
-not-all-ones : (d k n : ℕ) → d < 256 → k < n → n ≤ 16777215 → d * 2 ^ 24 + k ≡ allOnes → ⊥
-not-all-ones d k n h l m e = omega arith
 
 module _ (v : View) (few-decks : v .decks ≤ 256) (few-polygons : (d : ℕ) → v .shown .polygons d ≤ 16777215) (S : ℕ) (measured : MeasuredBelow v S) where
   -- step t is the first with candidates, c and the rest
