@@ -231,7 +231,7 @@ WORDS = {"S": 5, "P": 4, "E": 6, "B": 6, "G": 6, "T": 6, "H": 8, "M": 5, "A": 1,
 
 
 def spelled(x):
-    return "nan" if x == NAN else "%08X" % to_bits(x)
+    return "nan" if x == NAN else "%08x" % to_bits(x)
 
 
 def result(letter, words, v):
@@ -248,7 +248,7 @@ def result(letter, words, v):
         h = height_along(*places[:3], v[6], v[7])
         return ["-" if h is None else spelled(h)]
     if letter in "EBGT":
-        return ["%08X" % {"E": side, "B": in_bounding_box, "G": on_segment, "T": edge_test}[letter](*places)]
+        return ["%08x" % {"E": side, "B": in_bounding_box, "G": on_segment, "T": edge_test}[letter](*places)]
     if letter in "DC":
         return [spelled({"D": dot, "C": perp_dot}[letter](*places))]
     return [spelled({"A": absolute, "N": least, "X": most}[letter](*v))]

@@ -604,7 +604,7 @@ def cases():
 def lines(no, entries):
     if no:
         return ["refused %d kept" % no]
-    return ["wrote %d kept" % len(entries)] + ["".join(" %08X" % word for word in one) for one in entries]
+    return ["wrote %d kept" % len(entries)] + ["".join(" %08x" % word for word in one) for one in entries]
 
 
 def files(some):
