@@ -14,9 +14,8 @@ from fractions import Fraction
 
 sys.path.insert(0, os.path.dirname(os.path.abspath(__file__)))
 sys.dont_write_bytecode = True  # nothing is left beside the tools
+import stored_cases
 from directions import directions
-
-CRATE = os.path.join(os.path.dirname(os.path.abspath(__file__)), "..", "crates", "geometry_cases")
 
 # ---- binary32. A float is (sign, size): sign is 1 for a minus, size a Fraction, or INFINITE. A NaN is NAN.
 
@@ -520,31 +519,18 @@ def files():
     groups = [side_cases, box_cases, segment_cases, polygon_cases, height_cases, mean_cases, number_cases]
     groups += [product_cases, sample_cases, probe_cases, bad_lines, random_cases]
     lines = [line for group in groups for line in group()]
-    return {"stdin": "".join(l + "\n" for l in lines), "stdout": "".join(answer(l) + "\n" for l in lines)}
+    texts = {"stdin": lines, "stdout": [answer(l) for l in lines]}
+    return {name: "".join(l + "\n" for l in text).encode("ascii") for name, text in texts.items()}
 
 
 def write():
-    for name, text in files().items():
-        with open(os.path.join(CRATE, name), "w", encoding="ascii", newline="\n") as out:
-            out.write(text)
+    stored_cases.write("geometry_cases", files())
 
 
 def check():
-    wrong = 0
-    for name, text in files().items():
-        stored = open(os.path.join(CRATE, name), encoding="ascii", newline="").read()
-        if stored != text:
-            print("geometry_cases: crates/geometry_cases/%s is not what tools/geometry_cases.py computes" % name)
-            wrong = 1
-    if not wrong:
-        print("geometry_cases: %d cases, both files as computed" % text.count("\n"))
-    return wrong
+    some = files()
+    return stored_cases.check("geometry_cases", some, some["stdin"].count(b"\n"))
 
 
 if __name__ == "__main__":
-    if sys.argv[1:] == ["write"]:
-        write()
-    elif sys.argv[1:] == ["check"]:
-        sys.exit(check())
-    else:
-        sys.exit(__doc__)
+    stored_cases.run(__doc__, write=write, check=check)
