@@ -1,1 +1,5 @@
 pub mod MillionTest
+pub mod Queries
+pub mod EntryLoop
+pub mod ClosestCalls
+pub mod HeightCalls

@@ -72,3 +72,9 @@ StepFits v s out = entrySize * length (candidates v s) ≤ length out
 
 abbrev pub StepPut : View → ℕ → List ℕ → List ℕ → Type 0
 StepPut v s out out′ = out′ ≡ joined (candidateBytes (v .shown)) (candidates v s) ++ drop (entrySize * length (candidates v s)) out
+
+abbrev pub StepCount : View → ℕ → ℕ → Type 0
+StepCount v s count = count ≡ length (candidates v s)
+
+abbrev pub stepReply : View → ℕ → Reply
+stepReply v s = replyOf Passed (candidateBytes (v .shown)) (candidates v s)

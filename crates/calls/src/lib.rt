@@ -9,7 +9,7 @@ ghost use Rattle.answers.specs.declared.Check.the-variants.{Passed};
 ghost use Rattle.answers.specs.Replies.{Replied};
 ghost use Rattle.ship.specs.Floats.{inSize};
 ghost use Rattle.walking.specs.Sees.{seenBy, SearchReady};
-ghost use Rattle.calls.specs.Closest.{question16, askedAt, entrySize, entryBytes, queryCheck, closestPointsReply, closestPointReply, StepFits, StepPut};
+ghost use Rattle.calls.specs.Closest.{question16, askedAt, entrySize, entryBytes, queryCheck, closestPointsReply, closestPointReply, StepFits, StepPut, StepCount, stepReply};
 ghost use Rattle.calls.specs.HeightCall.{heightCall, heightCheck, heightReply};
 use answers::Answer;
 use answers::Check;
@@ -94,6 +94,26 @@ fn put_step(file: &[u8], blocked: &[u8], table: &[i32; 2432], seat: Seat, s: usi
     }
 }
 
+// The candidates of step s, of which there are `count`, where the output has room for them.
+fn put_counted(
+    file: &[u8],
+    blocked: &[u8],
+    table: &[i32; 2432],
+    seat: Seat,
+    s: usize,
+    count: usize,
+    out: &mut [u8],
+) -> Answer
+    requires { ⌜ SearchReady (now file) (now blocked) (now table) seat × ((s < 16) × StepCount (seenBy (now file) (now blocked) seat) s count) ⌝ }
+    ensures { λ r. ⌜ Replied (stepReply (seenBy (now (file .entry)) (now (blocked .entry)) seat) s) (now (out .entry)) (now (out .exit)) r ⌝ }
+{
+    if !answers::room_for(ENTRY_SIZE, count, out.len()) {
+        return Answer::Refused(20);
+    }
+    put_step(file, blocked, table, seat, s, out);
+    Answer::Wrote(count)
+}
+
 // The candidates of the first step with any. The first search counts them, since question 20 comes before a byte is written.
 pub fn get_closest_points_on_layers(
     file: &[u8],
@@ -114,12 +134,16 @@ pub fn get_closest_points_on_layers(
     if records::unplaced(found) {
         return Answer::Wrote(0);
     }
-    let count = found.candidates as usize;
-    if !answers::room_for(ENTRY_SIZE, count, out.len()) {
-        return Answer::Refused(20);
-    }
-    put_step(file, blocked, &table, seat, found.step as usize, out);
-    Answer::Wrote(count)
+    let step = found.step as usize;
+    put_counted(
+        file,
+        blocked,
+        &table,
+        seat,
+        step,
+        found.candidates as usize,
+        out,
+    )
 }
 
 // The first of them, or none. It is what the record of such a seat begins with.

@@ -3,7 +3,7 @@ use Prim.Native.Nat.{ℕ, suc, _+_, _*_, _≤_, _<_, _^_}
 use mathlib.Core.Path.{_≡_, refl, sym, ap, _∙_, subst}
 use mathlib.Core.List.{List, [], _∷_}
 use native.Mathlib.Omega.{arith}
-use native.Mathlib.Nat.{add-assoc, mul-le-mul}
+use native.Mathlib.Nat.{add-assoc}
 use mir.Syntax.{w64}
 use mir.Val.{Fits}
 use lib.IntN.{ℤ}
@@ -13,18 +13,14 @@ use Rattle.geometry.specs.declared.Height.{Height}
 use Rattle.geometry.specs.Bounds.{PointWithin}
 use Rattle.answers.specs.declared.Check.the-variants.{Passed}
 use Rattle.hits.specs.declared.Candidate.{Candidate}
-use Rattle.ship.specs.Blocks.{decksIn}
 use Rattle.ship.specs.Questions.{firstNo}
-use Rattle.ship.proofs.Facts.{decks-range}
-use Rattle.ship.proofs.ModelFacts.{decks-length}
 use Rattle.survey.specs.declared.Seat.{Seat}
 use Rattle.survey.specs.Search.{candidates, triedIn}
-use Rattle.survey.proofs.Loops.{candidates-bound, tried-in-bound}
 use Rattle.walking.specs.declared.Next.{Next}
 use Rattle.walking.specs.declared.Next.the-variants.{Reached, Ended}
 use Rattle.walking.specs.Sees.{shownBy, seenBy, SearchReady, CandidateIn}
 use Rattle.walking.specs.Walk.{candidatesAfter, triedAfter, leftOf, leftTried, NextIn, WalkedStep, WalkedAfter}
-use Rattle.walking.proofs.ShownLaws.{polygons-few, candidate-within}
+use Rattle.walking.proofs.ShownLaws.{candidate-within, few-tried, few-candidates}
 use Rattle.placing.specs.declared.Best.the-variants.{NoneYet}
 use Rattle.placing.specs.declared.Tally.{Tally}
 use Rattle.placing.specs.Tally.{chooseWith, bestFrom, startOf, takeWith, stepTally, BestWithin, TallyWithin}
@@ -58,18 +54,11 @@ taking-all {file} {blocked} {table} {seat} {s} {tried} ready l few w =
     }
 
 module _ {file blocked : List ℕ} {seat : Seat} {s tried : ℕ} {tally : Tally} {next : Next} (h : Taking file blocked seat s tried tally next) where
-  decks-few : seenBy file blocked seat .decks ≤ 256
-  decks-few = omega (arith, decks-length file, decks-range file (h .passed) .1)
-
   tried-small : triedIn (seenBy file blocked seat) s ≤ 38656
-  tried-small =
-      let ring : 10 * s + 1 ≤ 151 = omega (arith, h .step-below) in
-      omega (arith, tried-in-bound (seenBy file blocked seat) s, mul-le-mul decks-few ring)
+  tried-small = few-tried file blocked seat s (h .passed) (h .step-below)
 
   count-small : length (candidates (seenBy file blocked seat) s) ≤ 4294967040
-  count-small =
-      let each : 16777215 ≤ 16777215 = omega arith in
-      omega (arith, candidates-bound (seenBy file blocked seat) 16777215 (polygons-few file (h .passed) (seat .place)) s, mul-le-mul decks-few each)
+  count-small = few-candidates file blocked seat s (h .passed)
 
   -- ---- the end
   module _ {n : ℕ} (e : next ≡ Ended n) where

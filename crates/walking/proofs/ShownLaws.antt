@@ -4,6 +4,7 @@ use mathlib.Core.Path.{_≡_, refl, sym, ap, _∙_, subst}
 use mathlib.Core.Bool.{Bool, true, false}
 use mathlib.Core.List.{List}
 use native.Mathlib.Omega.{arith}
+use native.Mathlib.Nat.{mul-le-mul}
 use mir.Syntax.{w64}
 use mir.Val.{Fits}
 use lib.ListN.{length, List·getD-eq-default}
@@ -27,10 +28,12 @@ use Rattle.ship.specs.Decode.{deckAt, decode}
 use Rattle.ship.specs.Questions.{firstNo, DeckOfPassed}
 use Rattle.ship.proofs.Facts.{sound, decks-range}
 use Rattle.ship.proofs.ModelFacts.{polygons-length, offset-within, decks-length, deck-of, decode-reach}
-use Rattle.survey.specs.Search.{turn}
+use Rattle.survey.specs.declared.Seat.{Seat}
+use Rattle.survey.specs.Search.{turn, candidates, triedIn}
+use Rattle.survey.proofs.Loops.{candidates-bound, tried-in-bound}
 use Rattle.search.specs.OnDeck.{passesAt, deckTurn, nextHit, heightOn}
 use Rattle.search.proofs.HeightBound.{height-within}
-use Rattle.walking.specs.Sees.{sampleOn, placeOf, shownFrom, shownBy, CandidateIn, CandidateWithin}
+use Rattle.walking.specs.Sees.{sampleOn, placeOf, shownFrom, shownBy, seenBy, CandidateIn, CandidateWithin}
 use Rattle.walking.specs.Walk.{passingAfter}
 
 -- ---- a deck that is there
@@ -124,3 +127,18 @@ module _ {file : List ℕ} {c : Candidate} (passed : firstNo file ≡ Passed) (o
         place-within = place-small;
         height-within = rw here-is (height-within deck (c .polygon) (shownBy file p .place c) place-small);
       }
+
+-- ---- the numbers of a step: at most 256 decks of at most 151 samples, and at most 16,777,215 polygons a deck
+module _ (file blocked : List ℕ) (seat : Seat) (s : ℕ) (passed : firstNo file ≡ Passed) where
+  few-decks : seenBy file blocked seat .decks ≤ 256
+  few-decks = omega (arith, decks-length file, decks-range file passed .1)
+
+  pub few-tried : s < 16 → triedIn (seenBy file blocked seat) s ≤ 38656
+  few-tried l =
+      let ring : 10 * s + 1 ≤ 151 = omega arith in
+      omega (arith, tried-in-bound (seenBy file blocked seat) s, mul-le-mul few-decks ring)
+
+  pub few-candidates : length (candidates (seenBy file blocked seat) s) ≤ 4294967040
+  few-candidates =
+      let each : 16777215 ≤ 16777215 = omega arith in
+      omega (arith, candidates-bound (seenBy file blocked seat) 16777215 (polygons-few file passed (seat .place)) s, mul-le-mul few-decks each)
