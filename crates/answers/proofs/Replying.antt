@@ -80,6 +80,15 @@ output-length reply out = go (replyCheck reply (length out)) refl
     go Passed e = let l = passed-check reply (length out) e .1 in simp (length-append, length-drop) (omega arith)
     go (No number) e = refl
 
+module _ (reply : Reply) (out : List ℕ) (passed : replyCheck reply (length out) ≡ Passed) where
+  pub answer-passed : answerTo reply out ≡ Wrote (reply .count)
+  unfolding answerTo
+  answer-passed = rw passed
+
+  pub output-passed : outputTo reply out ≡ reply .bytes ++ drop (length (reply .bytes)) out
+  unfolding outputTo
+  output-passed = rw passed
+
 module _ {reply : Reply} {out out′ : List ℕ} {r : Answer} (replied : Replied reply out out′ r) where
   pub replied-length : length out′ ≡ length out
   replied-length = ap length (replied .output-is) ∙ output-length reply out

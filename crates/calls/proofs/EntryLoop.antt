@@ -30,10 +30,10 @@ use Rattle.survey.specs.View.{Shown}
 use Rattle.survey.specs.Search.{candidates}
 use Rattle.walking.specs.declared.Next.{Next}
 use Rattle.walking.specs.declared.Next.the-variants.{Reached, Ended}
-use Rattle.walking.specs.Sees.{shownBy, seenBy, SearchReady, CandidateIn, CandidateWithin}
+use Rattle.walking.specs.Sees.{shownBy, seenBy, CandidateIn, CandidateWithin}
 use Rattle.walking.specs.Walk.{candidatesAfter, leftOf, NextIn, WalkedStep, WalkedAfter}
 use Rattle.walking.proofs.ShownLaws.{candidate-within, few-candidates}
-use Rattle.calls.specs.Closest.{entrySize, entryBytes, candidateBytes, StepFits, StepPut, StepCount, stepReply}
+use Rattle.calls.specs.Closest.{entrySize, entryBytes, candidateBytes, StepFits, StepPut, StepCount, stepReply, PutReady}
 
 -- ---- `put_candidate`
 pub entry-is : (polygon : ℕ) (place : Vec2) (out : List ℕ) (at : ℕ) {out′ : List ℕ}
@@ -63,13 +63,13 @@ pub record Putting (file blocked : List ℕ) (seat : Seat) (s : ℕ) (out₀ out
   pub rest : Rest (candidateBytes (shownBy file (seat .place))) entrySize nowhere out₀ 0 (candidates (seenBy file blocked seat) s) out n
   pub left-is : drop n (candidates (seenBy file blocked seat) s) ≡ leftOf (seenBy file blocked seat) next
 
-pub putting-all : {file blocked : List ℕ} {table : List ℤ} {seat : Seat} {s : ℕ} {out : List ℕ} {next : Next} → SearchReady file blocked table seat
-    → StepFits (seenBy file blocked seat) s out → WalkedStep file (seenBy file blocked seat) s next → Putting file blocked seat s out out 0 next
-putting-all ready room w =
+pub putting-all : {file blocked : List ℕ} {table : List ℤ} {seat : Seat} {s : ℕ} {out : List ℕ} {next : Next} → PutReady file blocked table seat s out
+    → WalkedStep file (seenBy file blocked seat) s next → Putting file blocked seat s out out 0 next
+putting-all ready w =
     record {
-      passed = ready .file-ready .file-passed;
-      place-within = ready .place-within;
-      room = room;
+      passed = ready .search-ready .file-ready .file-passed;
+      place-within = ready .search-ready .place-within;
+      room = ready .fits;
       next-in = w .within;
       rest = rest-all;
       left-is = w .left-is;

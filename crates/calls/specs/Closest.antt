@@ -1,9 +1,10 @@
 -- Document 01, section 5: `get_closest_points_on_layers` and `get_closest_point_on_layers`, their questions and their entries.
-use Prim.Native.Nat.{ℕ, _*_, _≤_}
+use Prim.Native.Nat.{ℕ, _*_, _≤_, _<_}
 use mathlib.Core.Path.{_≡_}
 use mathlib.Core.Bool.{Bool, _&&_}
 use mathlib.Core.List.{List, [], _∷_, _++_}
 use lib.ListN.{length, take, drop}
+use lib.IntN.{ℤ}
 use lib.Ieee.{Float, binary32, toBits}
 use Rattle.geometry.specs.declared.Vec2.{Vec2}
 use Rattle.words.specs.Bytes.{joined, wordsOf}
@@ -11,7 +12,8 @@ use Rattle.answers.specs.declared.Check.{Check}
 use Rattle.answers.specs.declared.Check.the-variants.{Passed}
 use Rattle.answers.specs.Checks.{ask, after}
 use Rattle.answers.specs.Questions.{question14, question17}
-use Rattle.answers.specs.Replies.{Reply, replyOf}
+use Rattle.answers.specs.declared.Answer.{Answer}
+use Rattle.answers.specs.Replies.{Reply, replyOf, Replied, RepliedCode}
 use Rattle.hits.specs.declared.Candidate.{Candidate}
 use Rattle.ship.specs.Blocks.{decksIn, stepsIn}
 use Rattle.ship.specs.Floats.{inSize}
@@ -22,7 +24,7 @@ use Rattle.survey.specs.declared.Wish.the-variants.{NoWish}
 use Rattle.survey.specs.Wishes.{choiceOf}
 use Rattle.survey.specs.View.{Shown, View}
 use Rattle.survey.specs.Search.{candidates, firstStep, foundIn}
-use Rattle.walking.specs.Sees.{shownBy, seenBy}
+use Rattle.walking.specs.Sees.{shownBy, seenBy, SearchReady}
 
 abbrev pub pointOfParts : Float → Float → Vec2
 pointOfParts x y = record { x = x; y = y }
@@ -66,7 +68,20 @@ abbrev pub closestPointReply : List ℕ → Vec2 → ℕ → List ℕ → Reply
 closestPointReply file p deck blocked =
     replyOf (queryCheck file p deck blocked) (candidateBytes (shownBy file p)) (closestPoint file p deck blocked)
 
--- ---- the candidates of step s stand in the output from its first byte on, and nothing else is altered
+-- what the two calls promise, and over C
+abbrev pub PointsReplied : List ℕ → Vec2 → ℕ → List ℕ → List ℕ → List ℕ → Answer → Type 0
+PointsReplied file p deck blocked out out′ r = Replied (closestPointsReply file p deck blocked) out out′ r
+
+abbrev pub PointReplied : List ℕ → Vec2 → ℕ → List ℕ → List ℕ → List ℕ → Answer → Type 0
+PointReplied file p deck blocked out out′ r = Replied (closestPointReply file p deck blocked) out out′ r
+
+abbrev pub PointsCode : List ℕ → Float → Float → ℕ → List ℕ → List ℕ → List ℕ → ℤ → Type 0
+PointsCode file x y deck blocked out out′ r = RepliedCode (closestPointsReply file (pointOfParts x y) deck blocked) out out′ r
+
+abbrev pub PointCode : List ℕ → Float → Float → ℕ → List ℕ → List ℕ → List ℕ → ℤ → Type 0
+PointCode file x y deck blocked out out′ r = RepliedCode (closestPointReply file (pointOfParts x y) deck blocked) out out′ r
+
+-- ---- the candidates of a step: the room for them, that they stand in the output from its first byte on, and how many they are
 abbrev pub StepFits : View → ℕ → List ℕ → Type 0
 StepFits v s out = entrySize * length (candidates v s) ≤ length out
 
@@ -78,3 +93,17 @@ StepCount v s count = count ≡ length (candidates v s)
 
 abbrev pub stepReply : View → ℕ → Reply
 stepReply v s = replyOf Passed (candidateBytes (v .shown)) (candidates v s)
+
+-- what a function that writes a step needs of the room, or of the count
+pub record PutReady (file blocked : List ℕ) (table : List ℤ) (seat : Seat) (s : ℕ) (out : List ℕ) : Type 0 where
+  pub search-ready : SearchReady file blocked table seat
+  pub step-below : s < 16
+  pub fits : StepFits (seenBy file blocked seat) s out
+
+pub record CountReady (file blocked : List ℕ) (table : List ℤ) (seat : Seat) (s count : ℕ) : Type 0 where
+  pub search-ready : SearchReady file blocked table seat
+  pub step-below : s < 16
+  pub counts : StepCount (seenBy file blocked seat) s count
+
+abbrev pub StepReplied : List ℕ → List ℕ → Seat → ℕ → List ℕ → List ℕ → Answer → Type 0
+StepReplied file blocked seat s out out′ r = Replied (stepReply (seenBy file blocked seat) s) out out′ r

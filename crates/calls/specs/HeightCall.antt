@@ -4,7 +4,8 @@ use mathlib.Core.List.{List, [], _∷_}
 use mathlib.Core.Bool.{Bool, _||_, cond}
 use lib.Dec.{eqb, ltb}
 use lib.ListN.{length}
-use lib.Ieee.{binary32, toBits}
+use lib.IntN.{ℤ}
+use lib.Ieee.{Float, binary32, toBits}
 use Rattle.geometry.specs.declared.Vec2.{Vec2}
 use Rattle.geometry.specs.declared.Height.{Height}
 use Rattle.geometry.specs.declared.Height.the-variants.{Known, None}
@@ -12,14 +13,14 @@ use Rattle.words.specs.Bytes.{allOnes, bytes4}
 use Rattle.answers.specs.declared.Check.{Check}
 use Rattle.answers.specs.declared.Check.the-variants.{Passed}
 use Rattle.answers.specs.Checks.{ask, after}
-use Rattle.answers.specs.Replies.{Reply, replyOf}
+use Rattle.answers.specs.Replies.{Reply, replyOf, RepliedCode}
 use Rattle.ship.specs.Blocks.{decksIn}
 use Rattle.ship.specs.Decode.{decode}
 use Rattle.ship.specs.Model.{deckOf}
 use Rattle.ship.specs.Packed.{packedDeck, packedPolygon}
 use Rattle.ship.specs.Questions.{firstNo}
 use Rattle.search.specs.OnDeck.{heightOn}
-use Rattle.calls.specs.Closest.{question16}
+use Rattle.calls.specs.Closest.{pointOfParts, question16}
 
 -- 17 the named deck there? All ones passes.
 unfoldable pub question17Height : List ℕ → ℕ → Bool
@@ -45,3 +46,6 @@ heightEntry (Known h) = toBits binary32 h ∷ []
 
 abbrev pub heightReply : List ℕ → Vec2 → ℕ → Reply
 heightReply file p polygon = replyOf (heightCheck file p polygon) bytes4 (heightEntry (heightCall file p polygon))
+
+abbrev pub HeightCode : List ℕ → Float → Float → ℕ → List ℕ → List ℕ → ℤ → Type 0
+HeightCode file x y polygon out out′ r = RepliedCode (heightReply file (pointOfParts x y) polygon) out out′ r

@@ -1,15 +1,14 @@
 // The calls that answer one query: the closest points on the decks, and the height at a place (document 01, sections 5 and 6).
 ghost use mathlib.Core.Path.{_≡_};
-ghost use mathlib.Core.List.{_++_};
-ghost use Prim.Native.Nat.{_+_, _*_, _^_, _≤_, _<_};
-ghost use lib.ListN.{length, drop};
+ghost use Prim.Native.Nat.{_+_, _*_, _^_, _≤_};
+ghost use lib.ListN.{length};
 ghost use Rattle.geometry.specs.Bounds.{PointWithin, HeightWithin};
 ghost use Rattle.words.specs.Bytes.{splice};
 ghost use Rattle.answers.specs.declared.Check.the-variants.{Passed};
 ghost use Rattle.answers.specs.Replies.{Replied};
 ghost use Rattle.ship.specs.Floats.{inSize};
-ghost use Rattle.walking.specs.Sees.{seenBy, SearchReady};
-ghost use Rattle.calls.specs.Closest.{question16, askedAt, entrySize, entryBytes, queryCheck, closestPointsReply, closestPointReply, StepFits, StepPut, StepCount, stepReply};
+ghost use Rattle.walking.specs.Sees.{seenBy};
+ghost use Rattle.calls.specs.Closest.{question16, askedAt, entrySize, entryBytes, queryCheck, PointsReplied, PointReplied, StepPut, PutReady, CountReady, StepReplied};
 ghost use Rattle.calls.specs.HeightCall.{heightCall, heightCheck, heightReply};
 use answers::Answer;
 use answers::Check;
@@ -76,7 +75,7 @@ fn put_candidate(out: &mut [u8], n: usize, polygon: u32, place: Vec2)
 
 // The candidates of step s, written from the first byte on.
 fn put_step(file: &[u8], blocked: &[u8], table: &[i32; 2432], seat: Seat, s: usize, out: &mut [u8])
-    requires { ⌜ SearchReady (now file) (now blocked) (now table) seat × ((s < 16) × StepFits (seenBy (now file) (now blocked) seat) s (now out)) ⌝ }
+    requires { ⌜ PutReady (now file) (now blocked) (now table) seat s (now out) ⌝ }
     ensures { λ _. ⌜ StepPut (seenBy (now (file .entry)) (now (blocked .entry)) seat) s (now (out .entry)) (now (out .exit)) ⌝ }
 {
     let mut n: usize = 0;
@@ -104,8 +103,8 @@ fn put_counted(
     count: usize,
     out: &mut [u8],
 ) -> Answer
-    requires { ⌜ SearchReady (now file) (now blocked) (now table) seat × ((s < 16) × StepCount (seenBy (now file) (now blocked) seat) s count) ⌝ }
-    ensures { λ r. ⌜ Replied (stepReply (seenBy (now (file .entry)) (now (blocked .entry)) seat) s) (now (out .entry)) (now (out .exit)) r ⌝ }
+    requires { ⌜ CountReady (now file) (now blocked) (now table) seat s count ⌝ }
+    ensures { λ r. ⌜ StepReplied (now (file .entry)) (now (blocked .entry)) seat s (now (out .entry)) (now (out .exit)) r ⌝ }
 {
     if !answers::room_for(ENTRY_SIZE, count, out.len()) {
         return Answer::Refused(20);
@@ -122,7 +121,7 @@ pub fn get_closest_points_on_layers(
     blocked: &[u8],
     out: &mut [u8],
 ) -> Answer
-    ensures { λ r. ⌜ Replied (closestPointsReply (now (file .entry)) p deck (now (blocked .entry))) (now (out .entry)) (now (out .exit)) r ⌝ }
+    ensures { λ r. ⌜ PointsReplied (now (file .entry)) p deck (now (blocked .entry)) (now (out .entry)) (now (out .exit)) r ⌝ }
 {
     match query_check(file, p, deck, blocked) {
         Check::No(number) => return Answer::Refused(number),
@@ -154,7 +153,7 @@ pub fn get_closest_point_on_layers(
     blocked: &[u8],
     out: &mut [u8],
 ) -> Answer
-    ensures { λ r. ⌜ Replied (closestPointReply (now (file .entry)) p deck (now (blocked .entry))) (now (out .entry)) (now (out .exit)) r ⌝ }
+    ensures { λ r. ⌜ PointReplied (now (file .entry)) p deck (now (blocked .entry)) (now (out .entry)) (now (out .exit)) r ⌝ }
 {
     match query_check(file, p, deck, blocked) {
         Check::No(number) => return Answer::Refused(number),
