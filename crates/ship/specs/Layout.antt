@@ -5,6 +5,7 @@ use lib.ListN.{length}
 use lib.Ieee.{Float}
 use Rattle.words.specs.Bytes.{u32At, f32At}
 use Rattle.ship.specs.declared.Blocks.{Blocks}
+use Rattle.ship.specs.declared.DeckRow.{DeckRow}
 use Rattle.ship.specs.declared.Extent.{Extent}
 
 -- ---- sizes and positions, in bytes; the code has constants of the same names
@@ -77,25 +78,38 @@ extentAt s at stride i = record { start = u32At s (at + stride * i); count = u32
 abbrev pub blockAt : List ℕ → ℕ → Extent
 blockAt s j = extentAt s headerSize pairSize j
 
--- V, N, P, C, H are blocks 0 to 4 of a deck
-abbrev pub blockOf : List ℕ → ℕ → ℕ → Extent
-blockOf s d k = blockAt s (blocksPerDeck * d + k)
+-- the pairs of deck d
+abbrev pub rowPosition : ℕ → ℕ
+rowPosition d = headerSize + deckRowSize * d
 
--- where deck d's blocks begin, and how many rows each has
-unfoldable pub blocksAt : List ℕ → ℕ → Blocks
-blocksAt s d =
+abbrev pub deckRow : List ℕ → ℕ → DeckRow
+deckRow s d =
     record {
-      v = blockOf s d 0 .start;
-      vertices = (blockOf s d 0 .count - deckOffsetSize) / vertexSize;
-      n = blockOf s d 1 .start;
-      neighbours = blockOf s d 1 .count / numberSize;
-      p = blockOf s d 2 .start;
-      polygons = blockOf s d 2 .count / pairSize;
-      c = blockOf s d 3 .start;
-      corners = blockOf s d 3 .count / numberSize;
-      h = blockOf s d 4 .start;
-      heights = blockOf s d 4 .count / numberSize;
+      v = extentAt s (rowPosition d) pairSize 0;
+      n = extentAt s (rowPosition d) pairSize 1;
+      p = extentAt s (rowPosition d) pairSize 2;
+      c = extentAt s (rowPosition d) pairSize 3;
+      h = extentAt s (rowPosition d) pairSize 4;
     }
+
+-- where a deck's blocks begin, and how many rows each has
+abbrev pub blocksOf : DeckRow → Blocks
+blocksOf row =
+    record {
+      v = row .v .start;
+      vertices = (row .v .count - deckOffsetSize) / vertexSize;
+      n = row .n .start;
+      neighbours = row .n .count / numberSize;
+      p = row .p .start;
+      polygons = row .p .count / pairSize;
+      c = row .c .start;
+      corners = row .c .count / numberSize;
+      h = row .h .start;
+      heights = row .h .count / numberSize;
+    }
+
+unfoldable pub blocksAt : List ℕ → ℕ → Blocks
+blocksAt s d = blocksOf (deckRow s d)
 
 -- ---- rows of the blocks
 -- V: vertex i, of which x stands first
