@@ -75,10 +75,11 @@ blocksPosition s = headerSize + deckRowSize * decksIn s
 abbrev pub extentAt : List ℕ → ℕ → ℕ → ℕ → Extent
 extentAt s at stride i = record { start = u32At s (at + stride * i); count = u32At s (at + stride * i + numberSize) }
 
+-- block j of the file's 5·L
 abbrev pub blockAt : List ℕ → ℕ → Extent
 blockAt s j = extentAt s headerSize pairSize j
 
--- the pairs of deck d
+-- the row of deck d, its five pairs
 abbrev pub rowPosition : ℕ → ℕ
 rowPosition d = headerSize + deckRowSize * d
 
@@ -112,7 +113,7 @@ unfoldable pub blocksAt : List ℕ → ℕ → Blocks
 blocksAt s d = blocksOf (deckRow s d)
 
 -- ---- rows of the blocks
--- V: vertex i, of which x stands first
+-- V: vertex i, its x first
 abbrev pub vertexPosition : Blocks → ℕ → ℕ
 vertexPosition b i = b .v + deckOffsetSize + vertexSize * i
 
@@ -120,6 +121,7 @@ vertexPosition b i = b .v + deckOffsetSize + vertexSize * i
 abbrev pub neighbourExtent : List ℕ → Blocks → ℕ → Extent
 neighbourExtent s b i = extentAt s (b .v + firstList) vertexSize i
 
+-- N
 abbrev pub neighbourEntry : List ℕ → Blocks → ℕ → ℕ
 neighbourEntry s b i = u32At s (b .n + numberSize * i)
 
@@ -127,9 +129,11 @@ neighbourEntry s b i = u32At s (b .n + numberSize * i)
 abbrev pub polygonExtent : List ℕ → Blocks → ℕ → Extent
 polygonExtent s b k = extentAt s (b .p) pairSize k
 
+-- C
 abbrev pub cornerEntry : List ℕ → Blocks → ℕ → ℕ
 cornerEntry s b i = u32At s (b .c + numberSize * i)
 
+-- H
 abbrev pub heightPosition : Blocks → ℕ → ℕ
 heightPosition b i = b .h + numberSize * i
 
