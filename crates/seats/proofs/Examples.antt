@@ -18,7 +18,7 @@ use Rattle.answers.specs.Replies.{replyCheck, answerTo}
 use Rattle.records.specs.declared.SeatRecord.{SeatRecord}
 use Rattle.records.specs.Record.{recordBytes}
 use Rattle.hits.specs.Hits.{polygonHit, sampleHit}
-use Rattle.ship.specs.Blocks.{blocksAt}
+use Rattle.ship.specs.Layout.{blocksAt}
 use Rattle.ship.specs.Model.{pointOf, cornersOf, heightOf, polygonPoints, polygonCorners}
 use Rattle.ship.specs.Decode.{deckAt, decode}
 use Rattle.ship.specs.Floats.{sizeAtMost, reachAllowed}
