@@ -1,10 +1,9 @@
 -- Document 01, section 7: the lines of `seatlist`. Fields: seat from 0, word, deck, polygon in its deck, x, y and height as hexadecimal bits
 -- (height `-` if none), step, sample, tried, candidates; after `none`, tried; after `end`, placed and unplaced.
-use Prim.Native.Nat.{ℕ, _+_, _*_, _/_, _%_, _^_}
-use mathlib.Core.Bool.{Bool, cond}
+use Prim.Native.Nat.{ℕ, _/_, _%_, _^_}
+use mathlib.Core.Bool.{cond}
 use mathlib.Core.List.{List, [], _∷_, _++_}
 use lib.Dec.{eqb}
-use Rattle.words.specs.Bytes.{u32At}
 use Rattle.records.specs.declared.SeatRecord.{SeatRecord}
 use Rattle.records.specs.Record.{isUnplaced}
 use Rattle.lines.specs.Text.{decimal, hex}

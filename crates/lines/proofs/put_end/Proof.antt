@@ -1,8 +1,8 @@
--- `refused_line` meets its contract.
+-- `put_end` meets its contract. The two parts of its clause are searched for apart: together they take too many steps.
 use borrow.Author.Needs.{needs}
 use Rattle.lines.proofs.Parts.{wholes}
-use Rattle.lines.proofs.refused_line.Statement.{statement}
-use Rattle.lines.proofs.refused_line.Tie as tie
+use Rattle.lines.proofs.put_end.Statement.{statement}
+use Rattle.lines.proofs.put_end.Tie as tie
 
 slice-aggregate-put-bytes : tie.Need-slice-aggregate-put-bytes
 slice-aggregate-put-bytes c = search (wholes, needs)
@@ -12,6 +12,9 @@ put-bytes-requires c κs = search (wholes, needs)
 
 put-number-requires : tie.Need-put-number-requires
 put-number-requires c κs = search (wholes, needs)
+
+put-number-requires-2 : tie.Need-put-number-requires-2
+put-number-requires-2 c κs = search (wholes, needs)
 
 slice-aggregate-put-bytes-2 : tie.Need-slice-aggregate-put-bytes-2
 slice-aggregate-put-bytes-2 c = search (wholes, needs)
@@ -23,15 +26,16 @@ same-length : tie.Need-same-length
 same-length c = search (wholes, needs)
 
 returns : tie.Need-returns
-returns c = search (wholes, needs)
+returns c = (search (wholes, needs), search needs)
 
-pub refused-line-spec : {M : Type 1} → statement M
-refused-line-spec =
+pub put-end-spec : {M : Type 1} → statement M
+put-end-spec =
     tie.close
     (tie.spec
     slice-aggregate-put-bytes
     put-bytes-requires
     put-number-requires
+    put-number-requires-2
     slice-aggregate-put-bytes-2
     put-bytes-requires-2
     same-length
