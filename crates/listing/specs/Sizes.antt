@@ -1,0 +1,30 @@
+-- The most that an input can hold that passed question 21, and the room that its text takes.
+use Prim.Native.Nat.{ℕ, _+_, _*_, _≤_}
+use mathlib.Core.List.{List}
+use lib.ListN.{length}
+use Rattle.records.specs.Record.{recordSize}
+use Rattle.lines.specs.Text.{Put}
+use Rattle.listing.specs.Listing.{listText}
+
+-- 65,536 bytes, less a length and a blocked set, and 20 bytes a seat
+abbrev pub seatsSize : ℕ
+seatsSize = 65500
+
+abbrev pub mostSeats : ℕ
+mostSeats = 3275
+
+-- 128 bytes a line
+abbrev pub textSize : ℕ
+textSize = 128 * mostSeats + 128
+
+-- so many records are there, and there is room for their lines
+abbrev pub Room : List ℕ → List ℕ → ℕ → Type 0
+Room text records count = (count ≤ mostSeats) × (recordSize * count ≤ length records) × (textSize ≤ length text)
+
+-- text with these bytes at its start, and how many there are
+abbrev pub Written : List ℕ → List ℕ → List ℕ → ℕ → Type 0
+Written text bytes text′ n = Put text 0 bytes text′ n × (n ≤ textSize)
+
+-- the text of a run on the parts of an input
+abbrev pub RunWritten : List ℕ → List ℕ → List ℕ → List ℕ → List ℕ → ℕ → Type 0
+RunWritten file blocked seats text text′ n = Written text (listText file blocked seats) text′ n
