@@ -13,7 +13,7 @@ use Rattle.records.specs.declared.SeatRecord.{SeatRecord}
 use Rattle.records.specs.Record.{recordAt, recordsIn, isUnplaced}
 use Rattle.lines.specs.Text.{Put}
 use Rattle.lines.specs.Lines.{seatLine}
-use Rattle.lines.proofs.Joining.{put-put, put-same}
+use Rattle.lines.proofs.Joining.{put-put}
 use Rattle.listing.specs.Listing.{seatLines, placedIn, unplacedIn}
 use Rattle.listing.specs.Sizes.{mostSeats, textSize}
 

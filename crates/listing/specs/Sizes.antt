@@ -13,6 +13,9 @@ seatsSize = 65500
 abbrev pub mostSeats : ℕ
 mostSeats = 3275
 
+abbrev pub recordsSize : ℕ
+recordsSize = recordSize * mostSeats
+
 -- 128 bytes a line
 abbrev pub textSize : ℕ
 textSize = 128 * mostSeats + 128
@@ -21,9 +24,9 @@ textSize = 128 * mostSeats + 128
 abbrev pub Room : List ℕ → List ℕ → ℕ → Type 0
 Room text records count = (count ≤ mostSeats) × (recordSize * count ≤ length records) × (textSize ≤ length text)
 
--- text with these bytes at its start, and how many there are
+-- text with these bytes at its start, and how many there are: no more than fit
 abbrev pub Written : List ℕ → List ℕ → List ℕ → ℕ → Type 0
-Written text bytes text′ n = Put text 0 bytes text′ n × (n ≤ textSize)
+Written text bytes text′ n = Put text 0 bytes text′ n × (n ≤ length text′)
 
 -- the text of a run on the parts of an input
 abbrev pub RunWritten : List ℕ → List ℕ → List ℕ → List ℕ → List ℕ → ℕ → Type 0

@@ -7,7 +7,7 @@ ghost use Rattle.answers.specs.Replies.{Replied};
 ghost use Rattle.records.specs.Record.{recordSize, recordsIn};
 ghost use Rattle.lines.specs.Text.{Put};
 ghost use Rattle.listing.specs.Listing.{seatLines, placedIn, runText, seatlistText, textReply};
-ghost use Rattle.listing.specs.Sizes.{seatsSize, textSize, mostSeats, Room, Written, RunWritten};
+ghost use Rattle.listing.specs.Sizes.{seatsSize, recordsSize, textSize, mostSeats, Room, Written, RunWritten};
 use answers::Answer;
 
 // A line a seat, in list order.
@@ -51,20 +51,20 @@ fn put_records(text: &mut [u8], records: &[u8], count: usize) -> usize
     lines::put_end(text, end, placed, count as u32 - placed)
 }
 
-// The run on the parts of an input.
-fn put_run(text: &mut [u8], file: &[u8], blocked: &[u8], seats: &[u8]) -> usize
-    requires { ⌜ (length (now seats) ≤ seatsSize) × (textSize ≤ length (now text)) ⌝ }
+// The run on the parts of an input, with room for its records.
+fn put_run(text: &mut [u8], records: &mut [u8], file: &[u8], blocked: &[u8], seats: &[u8]) -> usize
+    requires { ⌜ (length (now seats) ≤ seatsSize) × (recordsSize ≤ length (now records)) × (textSize ≤ length (now text)) ⌝ }
     ensures { λ n. ⌜ RunWritten (now (file .entry)) (now (blocked .entry)) (now (seats .entry)) (now (text .entry)) (now (text .exit)) n ⌝ }
 {
-    let mut records = [0u8; 117900];
-    match seats::run(file, blocked, seats, &mut records) {
+    match seats::run(file, blocked, seats, records) {
         Answer::Refused(number) => lines::put_refused(text, 0, number),
-        Answer::Wrote(count) => put_records(text, &records, count),
+        Answer::Wrote(count) => put_records(text, records, count),
     }
 }
 
-fn put_text(text: &mut [u8], input: &[u8]) -> usize
-    requires { ⌜ textSize ≤ length (now text) ⌝ }
+// The text of an input, with room for its records.
+fn put_text(text: &mut [u8], records: &mut [u8], input: &[u8]) -> usize
+    requires { ⌜ (recordsSize ≤ length (now records)) × (textSize ≤ length (now text)) ⌝ }
     ensures { λ n. ⌜ Written (now (text .entry)) (seatlistText (now (input .entry))) (now (text .exit)) n ⌝ }
 {
     if !lines::input_allowed(input) {
@@ -74,6 +74,7 @@ fn put_text(text: &mut [u8], input: &[u8]) -> usize
     let blocked_end = file_end + 32;
     put_run(
         text,
+        records,
         &input[4..file_end],
         &input[file_end..blocked_end],
         &input[blocked_end..],
@@ -84,8 +85,10 @@ fn put_text(text: &mut [u8], input: &[u8]) -> usize
 pub fn seatlist_text(input: &[u8], out: &mut [u8]) -> Answer
     ensures { λ r. ⌜ Replied (textReply (now (input .entry))) (now (out .entry)) (now (out .exit)) r ⌝ }
 {
+    // an input of 65,536 bytes holds at most 3,275 seats: 128 bytes a line, 36 a record
     let mut text = [0u8; 419328];
-    let n = put_text(&mut text, input);
+    let mut records = [0u8; 117900];
+    let n = put_text(&mut text, &mut records, input);
     if out.len() < n {
         return Answer::Refused(20);
     }
