@@ -31,6 +31,9 @@ use Rattle.listing.specs.Sizes.{mostSeats, seatsSize, recordsSize, textS
 use Rattle.listing.proofs.Records.{all-counted}
 
 -- ---- text at the start
+pub prefix-long : (n : ℕ) (l : List ℕ) → n ≤ length l → n ≡ length (take n l)
+prefix-long n l h = sym (length-take-le n l h)
+
 module _ {s t xs : List ℕ} {at n : ℕ} (p : Put s at xs t n) where
   put-fits : n ≤ length s → n ≤ length t
   put-fits h =
@@ -116,11 +119,8 @@ module _ (input : List ℕ) {s t : List ℕ} {n : ℕ} (p : Written s (seatlistT
   pub text-short : {out : List ℕ} → length out < n → Replied (textReply input) out out (Refused 20)
   text-short h = replied-short refl refl (omega (arith, p .0 .next-is))
 
-  pub text-long : n ≡ length (take n t)
-  text-long = sym (length-take-le n t (p .1))
-
   pub text-room : {room : ℕ} → n ≤ room → 0 + length (take n t) ≤ room
-  text-room h = omega (arith, text-long)
+  text-room h = omega (arith, prefix-long n t (p .1))
 
   pub text-copied : {out out′ : List ℕ} {m : ℕ} → n ≤ length out → Put out 0 (take n t) out′ m → Replied (textReply input) out out′ (Wrote n)
   unfolding splice
@@ -141,7 +141,14 @@ pub ruleset texts = (
   seats-few,
   input-listed,
   text-short,
-  text-long,
+  prefix-long,
   text-room,
   text-copied,
 )
+
+-- ---- what a caller learns
+module _ (input : List ℕ) {out out′ : List ℕ} {r : Answer} (replied : Replied (textReply input) out out′ r) {n : ℕ} (wrote : r ≡ Wrote n) where
+  pub text-within : n ≤ length out′
+  text-within = omega (arith, wrote-count replied wrote, wrote-check replied wrote .1, replied-length replied)
+
+pub ruleset printed = (text-within, prefix-long)
