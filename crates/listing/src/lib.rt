@@ -30,10 +30,10 @@ fn count_placed(records: &[u8], count: usize) -> u32
     ensures { λ n. ⌜ (n ≡ placedIn (recordsIn (now (records .entry)) count)) × (n ≤ count) ⌝ }
 {
     let mut placed: u32 = 0;
-    let mut i: usize = 0;
-    'seats: while i < count {
-        let r = records::record_at(records, i);
-        i += 1;
+    let mut next: usize = 0;
+    'seats: while next < count {
+        let r = records::record_at(records, next);
+        next += 1;
         if !records::unplaced(r) {
             placed += 1;
         }

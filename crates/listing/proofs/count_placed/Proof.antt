@@ -1,4 +1,4 @@
--- `count_placed` meets its contract. The loop's invariant: so many of the first i records are placed.
+-- `count_placed` meets its contract. The loop's invariant: so many of the first records are placed.
 use Prim.Native.Nat.{_-_, _≤_}
 use borrow.Author.Needs.{needs}
 use Rattle.listing.proofs.Records.{Counted, counting}
@@ -6,10 +6,10 @@ use Rattle.listing.proofs.count_placed.Statement.{statement}
 use Rattle.listing.proofs.count_placed.Tie as tie
 
 abbrev Inv-seats : tie.InvT-seats
-Inv-seats records count placed₀ i₀ placed i = (i ≤ count) × Counted records placed i
+Inv-seats records count placed₀ next₀ placed next = (next ≤ count) × Counted records placed next
 
 abbrev μ-seats : tie.MeasureT-seats
-μ-seats records count placed₀ i₀ placed i = count - i
+μ-seats records count placed₀ next₀ placed next = count - next
 
 seats-holds : tie.Need-seats-holds Inv-seats μ-seats
 seats-holds c = search (counting, needs)
@@ -17,8 +17,8 @@ seats-holds c = search (counting, needs)
 record-at-requires : tie.Need-record-at-requires Inv-seats μ-seats
 record-at-requires c κs = search (counting, needs)
 
-add-i : tie.Need-add-i Inv-seats μ-seats
-add-i c = search (counting, needs)
+add-next : tie.Need-add-next Inv-seats μ-seats
+add-next c = search (counting, needs)
 
 unplaced-requires : tie.Need-unplaced-requires Inv-seats μ-seats
 unplaced-requires c κs = search (counting, needs)
@@ -49,7 +49,7 @@ count-placed-spec =
     μ-seats
     seats-holds
     record-at-requires
-    add-i
+    add-next
     unplaced-requires
     add-placed
     seats-less
