@@ -41,6 +41,10 @@ unfolding hexFrom
 length-hexFrom zero n rest = omega arith
 length-hexFrom (suc k) n rest = omega (arith, length-hexFrom k (n / 16) (glyph (n % 16) ∷ rest))
 
+pub hex-long : (n : ℕ) → length (hex n) ≡ 8
+unfolding hex
+hex-long n = length-hexFrom 8 n []
+
 store-last : (s : List ℕ) (at x : ℕ) (xs : List ℕ) → at + length xs < length s → splice (set s (at + length xs) x) at xs ≡ splice s at (xs ++ (x ∷ []))
 unfolding splice
 store-last s at x xs h =
@@ -78,7 +82,7 @@ module _ {n : ℕ} {text₀ : List ℕ} {at : ℕ} {text : List ℕ} {left i : �
   unfolding hexFrom hex
   back-none h =
       let z : i ≡ 0 = omega arith in
-      record { text-is = sym (b .same ∙ rw (z, splice-nil)); next-is = ap (λ (m : ℕ). at + m) (sym (length-hexFrom 8 n [])) }
+      record { text-is = sym (b .same ∙ rw (z, splice-nil)); next-is = omega (arith, hex-long n) }
 
 pub ruleset backward = (back-all, back-more, back-none)
 

@@ -2,5 +2,6 @@ pub mod Digits
 pub mod Readback
 pub mod Joining
 pub mod Parts
+pub mod Lengths
 pub mod Question21
 pub mod Examples

@@ -63,31 +63,29 @@ records-put records {s} {t} {u} {count} {n} {m} {placed} few room p h e q l =
 
 -- ---- put_run
 module _ (file blocked seats : List ℕ) where
-  ran : List SeatRecord
+  abbrev pub ran : List SeatRecord
   ran = seatRun (decode file) blocked (seatsOf seats)
 
-  ran-length : length ran ≡ length seats / 20
-  unfolding ran seatRun
+  pub ran-length : length ran ≡ length seats / 20
+  unfolding seatRun
   ran-length = length-map (seatsOf seats) _ ∙ length-rows (seatAt seats) (seatCount seats) 0
 
   module _ {out out′ : List ℕ} {r : Answer} (replied : Replied (runReply file blocked seats) out out′ r) (few : length seats ≤ seatsSize) where
     pub ran-few : {count : ℕ} → r ≡ Wrote count → count ≤ mostSeats
-    unfolding ran
     ran-few w = omega (arith, wrote-count replied w, ran-length)
 
     pub ran-room : {count : ℕ} → r ≡ Wrote count → recordSize * count ≤ length out′
-    unfolding ran
     ran-room w = omega (arith, wrote-count replied w, wrote-check replied w .1, records-length ran, replied-length replied)
 
     pub ran-wrote : {count n : ℕ} {s t : List ℕ} → r ≡ Wrote count → Written s (runText Passed (recordsIn out′ count)) t n → Written s (listText file blocked seats) t n
-    unfolding ran listText
+    unfolding listText
     ran-wrote {count} {n} {s} {t} w p =
         let rest = drop (length (recordsBytes ran)) out in
         let e : recordsIn out′ count ≡ ran = rw (wrote-bytes replied w, wrote-count replied w) (records-written ran rest) in
         rw (wrote-check replied w .0) (rw e at p)
 
     pub ran-refused : {number n : ℕ} {s t : List ℕ} → r ≡ Refused number → recordsSize ≤ length out → Put s 0 (refusedLine number) t n → Put s 0 (listText file blocked seats) t n
-    unfolding ran listText
+    unfolding listText
     ran-refused e room p =
         let l : length (recordsBytes ran) ≤ length out = omega (arith, records-length ran, ran-length) in
         rw (refused-check replied e l) p
@@ -145,10 +143,3 @@ pub ruleset texts = (
   text-room,
   text-copied,
 )
-
--- ---- what a caller learns
-module _ (input : List ℕ) {out out′ : List ℕ} {r : Answer} (replied : Replied (textReply input) out out′ r) {n : ℕ} (wrote : r ≡ Wrote n) where
-  pub text-within : n ≤ length out′
-  text-within = omega (arith, wrote-count replied wrote, wrote-check replied wrote .1, replied-length replied)
-
-pub ruleset printed = (text-within, prefix-long)

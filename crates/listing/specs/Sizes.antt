@@ -20,6 +20,10 @@ recordsSize = recordSize * mostSeats
 abbrev pub textSize : ℕ
 textSize = 128 * mostSeats + 128
 
+-- No text is longer: at most 192 bytes a line, for numbers of any size.
+abbrev pub longestText : ℕ
+longestText = 192 * mostSeats + 192
+
 -- so many records are there, and there is room for their lines
 abbrev pub Room : List ℕ → List ℕ → ℕ → Type 0
 Room text records count = (count ≤ mostSeats) × (recordSize * count ≤ length records) × (textSize ≤ length text)

@@ -1,4 +1,7 @@
 // Reads an input, and writes its text (document 01, section 7).
+ghost use Prim.Native.Nat.{_≤_};
+ghost use lib.ListN.{length};
+ghost use Rattle.listing.specs.Sizes.{longestText};
 use answers::Answer;
 use libc::STDIN_FILENO;
 use libc::STDOUT_FILENO;
@@ -9,15 +12,25 @@ fn print(text: &[u8]) {
     }
 }
 
-fn print_text(input: &[u8], out: &mut [u8]) {
+// What is proved never to be reached.
+fn never()
+    requires { ⌜ ⊥ ⌝ }
+{}
+
+// The output holds the longest text, so that it is never too short.
+fn print_text(input: &[u8], out: &mut [u8])
+    requires { ⌜ longestText ≤ length (now out) ⌝ }
+{
     match listing::seatlist_text(input, out) {
-        Answer::Refused(_) => os::fail(b"seatlist: the text does not fit"),
+        Answer::Refused(_) => never(),
         Answer::Wrote(n) => print(&out[..n]),
     }
 }
 
 // Reads until the input ends or the buffer is full. After a read that failed nothing is printed.
-fn list(buffer: &mut [u8], out: &mut [u8]) {
+fn list(buffer: &mut [u8], out: &mut [u8])
+    requires { ⌜ longestText ≤ length (now out) ⌝ }
+{
     let mut n: usize = 0;
     'reads: while n < buffer.len() {
         let got = libc::read(STDIN_FILENO, &mut buffer[n..]);
@@ -39,7 +52,6 @@ fn list(buffer: &mut [u8], out: &mut [u8]) {
 fn main() {
     // one byte more than is allowed, so that a longer input shows
     let mut buffer = [0u8; 65537];
-    // the longest text: 3,275 lines of seats and the last, at most 128 bytes each
-    let mut out = [0u8; 419328];
+    let mut out = [0u8; 628992];
     list(&mut buffer, &mut out);
 }

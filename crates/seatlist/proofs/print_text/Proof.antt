@@ -1,6 +1,6 @@
 -- `print_text` meets its contract.
 use borrow.Author.Needs.{needs}
-use Rattle.listing.proofs.Texts.{printed}
+use Rattle.listing.proofs.Printing.{printed}
 use Rattle.seatlist.proofs.print_text.Statement.{statement}
 use Rattle.seatlist.proofs.print_text.Tie as tie
 
@@ -10,11 +10,8 @@ seatlist-text-requires c κs = search (printed, needs)
 enum-told : tie.Need-enum-told
 enum-told c = search (printed, needs)
 
-slice-aggregate-fail : tie.Need-slice-aggregate-fail
-slice-aggregate-fail c = search (printed, needs)
-
-fail-requires : tie.Need-fail-requires
-fail-requires c κs = search (printed, needs)
+never-requires : tie.Need-never-requires
+never-requires c κs = search (printed, needs)
 
 enum-known-n : tie.Need-enum-known-n
 enum-known-n c = search (printed, needs)
@@ -46,8 +43,7 @@ print-text-spec =
     (tie.spec
     seatlist-text-requires
     enum-told
-    slice-aggregate-fail
-    fail-requires
+    never-requires
     enum-known-n
     slice-reshare-prefix-print
     slice-aggregate-print
