@@ -16,10 +16,10 @@ use Rattle.lines.specs.Lines.{refusedLine}
 use Rattle.lines.specs.Input.{question21}
 use Rattle.lines.proofs.Lengths.{seat-long, end-long, refused-long}
 use Rattle.lines.proofs.Question21.{input-small}
-use Rattle.seats.specs.Run.{runCheck}
+use Rattle.seats.specs.Run.{runCheck, runRecords}
 use Rattle.listing.specs.Listing.{fileIn, blockedIn, seatsIn, seatLines, placedIn, unplacedIn, runText, listText, seatlistText, textReply}
 use Rattle.listing.specs.Sizes.{mostSeats, seatsSize, longestText}
-use Rattle.listing.proofs.Texts.{prefix-long, ran, ran-length}
+use Rattle.listing.proofs.Texts.{prefix-long, ran-length}
 
 module _ (input : List ℕ) {out out′ : List ℕ} {r : Answer} (replied : Replied (textReply input) out out′ r) {n : ℕ} (wrote : r ≡ Wrote n) where
   pub text-within : n ≤ length out′
@@ -42,7 +42,7 @@ text-longest input = go (question21 input) refl
     go : (b : Bool) → question21 input ≡ b → length (cond b (listText (fileIn input) (blockedIn input) (seatsIn input)) (refusedLine 21)) ≤ longestText
     go true e =
         let few : length (seatsIn input) ≤ seatsSize = simp length-drop (omega (arith, input-small input e)) in
-        run-long (runCheck (fileIn input) (blockedIn input) (seatsIn input)) (ran (fileIn input) (blockedIn input) (seatsIn input))
+        run-long (runCheck (fileIn input) (blockedIn input) (seatsIn input)) (runRecords (fileIn input) (blockedIn input) (seatsIn input))
         (omega (arith, ran-length (fileIn input) (blockedIn input) (seatsIn input)))
     go false e = omega (arith, refused-long 21)
 

@@ -15,7 +15,6 @@ use Rattle.answers.specs.declared.Answer.the-variants.{Refused, Wrote}
 use Rattle.answers.specs.Replies.{Replied}
 use Rattle.answers.proofs.Asking.{said-no, said-yes}
 use Rattle.answers.proofs.Replying.{wrote-check, wrote-count, wrote-bytes, refused-check, replied-length, replied-short, replied-written}
-use Rattle.records.specs.declared.SeatRecord.{SeatRecord}
 use Rattle.records.specs.Record.{recordSize, recordAt, recordsIn, recordsBytes}
 use Rattle.records.proofs.ReadBack.{records-length, records-written}
 use Rattle.lines.specs.Text.{Put}
@@ -23,9 +22,8 @@ use Rattle.lines.specs.Lines.{endLine, refusedLine}
 use Rattle.lines.specs.Input.{question21}
 use Rattle.lines.proofs.Joining.{put-put}
 use Rattle.lines.proofs.Question21.{input-small}
-use Rattle.ship.specs.Decode.{decode}
 use Rattle.seats.specs.SeatFile.{seatAt, seatsOf, seatCount}
-use Rattle.seats.specs.Run.{seatRun, runReply}
+use Rattle.seats.specs.Run.{seatRun, runRecords, runReply}
 use Rattle.listing.specs.Listing.{seatsIn, seatLines, placedIn, unplacedIn, runText, listText, seatlistText, textReply}
 use Rattle.listing.specs.Sizes.{mostSeats, seatsSize, recordsSize, textSize, Written, RunWritten}
 use Rattle.listing.proofs.Records.{all-counted}
@@ -63,10 +61,7 @@ records-put records {s} {t} {u} {count} {n} {m} {placed} few room p h e q l =
 
 -- ---- put_run
 module _ (file blocked seats : List ℕ) where
-  abbrev pub ran : List SeatRecord
-  ran = seatRun (decode file) blocked (seatsOf seats)
-
-  pub ran-length : length ran ≡ length seats / 20
+  pub ran-length : length (runRecords file blocked seats) ≡ length seats / 20
   unfolding seatRun
   ran-length = length-map (seatsOf seats) _ ∙ length-rows (seatAt seats) (seatCount seats) 0
 
@@ -75,19 +70,21 @@ module _ (file blocked seats : List ℕ) where
     ran-few w = omega (arith, wrote-count replied w, ran-length)
 
     pub ran-room : {count : ℕ} → r ≡ Wrote count → recordSize * count ≤ length out′
-    ran-room w = omega (arith, wrote-count replied w, wrote-check replied w .1, records-length ran, replied-length replied)
+    ran-room w = omega (arith, wrote-count replied w, wrote-check replied w .1, records-length (runRecords file blocked seats), replied-length replied)
 
     pub ran-wrote : {count n : ℕ} {s t : List ℕ} → r ≡ Wrote count → Written s (runText Passed (recordsIn out′ count)) t n → Written s (listText file blocked seats) t n
     unfolding listText
     ran-wrote {count} {n} {s} {t} w p =
-        let rest = drop (length (recordsBytes ran)) out in
-        let e : recordsIn out′ count ≡ ran = rw (wrote-bytes replied w, wrote-count replied w) (records-written ran rest) in
+        let rs = runRecords file blocked seats in
+        let rest = drop (length (recordsBytes rs)) out in
+        let e : recordsIn out′ count ≡ rs = rw (wrote-bytes replied w, wrote-count replied w) (records-written rs rest) in
         rw (wrote-check replied w .0) (rw e at p)
 
     pub ran-refused : {number n : ℕ} {s t : List ℕ} → r ≡ Refused number → recordsSize ≤ length out → Put s 0 (refusedLine number) t n → Put s 0 (listText file blocked seats) t n
     unfolding listText
     ran-refused e room p =
-        let l : length (recordsBytes ran) ≤ length out = omega (arith, records-length ran, ran-length) in
+        let rs = runRecords file blocked seats in
+        let l : length (recordsBytes rs) ≤ length out = omega (arith, records-length rs, ran-length) in
         rw (refused-check replied e l) p
 
 -- ---- put_text
