@@ -16,11 +16,11 @@ mostSeats = 3275
 abbrev pub recordsSize : ℕ
 recordsSize = recordSize * mostSeats
 
--- 128 bytes a line
+-- 128 bytes a line, of numbers of 32 bits
 abbrev pub textSize : ℕ
 textSize = 128 * mostSeats + 128
 
--- No text is longer: at most 192 bytes a line, for numbers of any size.
+-- no text is longer: at most 192 bytes a line, of numbers of any size
 abbrev pub longestText : ℕ
 longestText = 192 * mostSeats + 192
 
