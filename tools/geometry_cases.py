@@ -14,9 +14,8 @@ from fractions import Fraction
 
 sys.path.insert(0, os.path.dirname(os.path.abspath(__file__)))
 sys.dont_write_bytecode = True  # nothing is left beside the tools
+import stored_cases
 from directions import directions
-
-CRATE = os.path.join(os.path.dirname(os.path.abspath(__file__)), "..", "crates", "geometry_cases")
 
 # ---- binary32. A float is (sign, size): sign is 1 for a minus, size a Fraction, or INFINITE. A NaN is NAN.
 
@@ -231,7 +230,7 @@ WORDS = {"S": 5, "P": 4, "E": 6, "B": 6, "G": 6, "T": 6, "H": 8, "M": 5, "A": 1,
 
 
 def spelled(x):
-    return "nan" if x == NAN else "%08X" % to_bits(x)
+    return "nan" if x == NAN else "%08x" % to_bits(x)
 
 
 def result(letter, words, v):
@@ -248,7 +247,7 @@ def result(letter, words, v):
         h = height_along(*places[:3], v[6], v[7])
         return ["-" if h is None else spelled(h)]
     if letter in "EBGT":
-        return ["%08X" % {"E": side, "B": in_bounding_box, "G": on_segment, "T": edge_test}[letter](*places)]
+        return ["%08x" % {"E": side, "B": in_bounding_box, "G": on_segment, "T": edge_test}[letter](*places)]
     if letter in "DC":
         return [spelled({"D": dot, "C": perp_dot}[letter](*places))]
     return [spelled({"A": absolute, "N": least, "X": most}[letter](*v))]
@@ -520,31 +519,18 @@ def files():
     groups = [side_cases, box_cases, segment_cases, polygon_cases, height_cases, mean_cases, number_cases]
     groups += [product_cases, sample_cases, probe_cases, bad_lines, random_cases]
     lines = [line for group in groups for line in group()]
-    return {"stdin": "".join(l + "\n" for l in lines), "stdout": "".join(answer(l) + "\n" for l in lines)}
+    texts = {"stdin": lines, "stdout": [answer(l) for l in lines]}
+    return {name: "".join(l + "\n" for l in text).encode("ascii") for name, text in texts.items()}
 
 
 def write():
-    for name, text in files().items():
-        with open(os.path.join(CRATE, name), "w", encoding="ascii", newline="\n") as out:
-            out.write(text)
+    stored_cases.write("geometry_cases", files())
 
 
 def check():
-    wrong = 0
-    for name, text in files().items():
-        stored = open(os.path.join(CRATE, name), encoding="ascii", newline="").read()
-        if stored != text:
-            print("geometry_cases: crates/geometry_cases/%s is not what tools/geometry_cases.py computes" % name)
-            wrong = 1
-    if not wrong:
-        print("geometry_cases: %d cases, both files as computed" % text.count("\n"))
-    return wrong
+    some = files()
+    return stored_cases.check("geometry_cases", some, some["stdin"].count(b"\n"))
 
 
 if __name__ == "__main__":
-    if sys.argv[1:] == ["write"]:
-        write()
-    elif sys.argv[1:] == ["check"]:
-        sys.exit(check())
-    else:
-        sys.exit(__doc__)
+    stored_cases.run(__doc__, write=write, check=check)

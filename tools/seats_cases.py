@@ -21,31 +21,17 @@ from functools import lru_cache
 sys.path.insert(0, os.path.dirname(os.path.abspath(__file__)))
 sys.dont_write_bytecode = True  # nothing is left beside the tools
 import geometry_cases as g
-from ship_file import ALL_ONES, SQUARE, blocked, seat, ship_file
+import stored_cases
+from ship_file import ALL_ONES, SQUARE, bits, blocked, put, seat, ship_file, u32
 
-CRATE = os.path.join(os.path.dirname(os.path.abspath(__file__)), "..", "crates", "seats_cases")
 MOST_BYTES = 260000  # they fit the program's array
 MOST_OUTPUT = 4096
 
 # ---- numbers
 
 
-def u32(*numbers):
-    return struct.pack("<%dI" % len(numbers), *numbers)
-
-
-def bits(x):
-    """The pattern of a float of one rounding, as a file has it."""
-    return struct.unpack("<I", struct.pack("<f", x))[0]
-
-
 def value(x):
     return g.of_bits(bits(x))
-
-
-def put(some, at, *numbers):
-    """The bytes with these numbers at a place."""
-    return some[:at] + u32(*numbers) + some[at + 4 * len(numbers) :]
 
 
 NAN = float("nan")
@@ -604,7 +590,7 @@ def cases():
 def lines(no, entries):
     if no:
         return ["refused %d kept" % no]
-    return ["wrote %d kept" % len(entries)] + ["".join(" %08X" % word for word in one) for one in entries]
+    return ["wrote %d kept" % len(entries)] + ["".join(" %08x" % word for word in one) for one in entries]
 
 
 def files(some):
@@ -616,21 +602,12 @@ def files(some):
 
 
 def write():
-    for name, content in files(cases()).items():
-        with open(os.path.join(CRATE, name), "wb") as out:
-            out.write(content)
+    stored_cases.write("seats_cases", files(cases()))
 
 
 def check():
     some = cases()
-    wrong = 0
-    for name, content in files(some).items():
-        if open(os.path.join(CRATE, name), "rb").read() != content:
-            print("seats_cases: crates/seats_cases/%s is not what tools/seats_cases.py computes" % name)
-            wrong = 1
-    if not wrong:
-        print("seats_cases: %d cases, both files as computed" % len(some))
-    return wrong
+    return stored_cases.check("seats_cases", files(some), len(some))
 
 
 def show():
@@ -639,11 +616,4 @@ def show():
 
 
 if __name__ == "__main__":
-    if sys.argv[1:] == ["write"]:
-        write()
-    elif sys.argv[1:] == ["check"]:
-        sys.exit(check())
-    elif sys.argv[1:] == ["list"]:
-        show()
-    else:
-        sys.exit(__doc__)
+    stored_cases.run(__doc__, write=write, check=check, list=show)

@@ -16,28 +16,11 @@ import sys
 
 sys.path.insert(0, os.path.dirname(os.path.abspath(__file__)))
 sys.dont_write_bytecode = True  # nothing is left beside the tools
-from ship_file import ALL_ONES, EXAMPLE_SHIP, SQUARE, deck_blocks, file_of_blocks, ship_file
+import stored_cases
+from ship_file import ALL_ONES, EXAMPLE_SHIP, SQUARE, bits, deck_blocks, file_of_blocks, put, ship_file, u32
 
-CRATE = os.path.join(os.path.dirname(os.path.abspath(__file__)), "..", "crates", "ship_cases")
 PASSED = "passed"
 MOST_BYTES = 250000  # they fit the program's array
-
-# ---- bytes
-
-
-def u32(*numbers):
-    return struct.pack("<%dI" % len(numbers), *numbers)
-
-
-def bits(x):
-    """The pattern of a float; one more is the next float away from 0."""
-    return struct.unpack("<I", struct.pack("<f", x))[0]
-
-
-def put(file, at, *numbers):
-    """The file with these numbers at a place."""
-    return file[:at] + u32(*numbers) + file[at + 4 * len(numbers) :]
-
 
 NAN = 0x7FC00000
 INFINITY = 0x7F800000
@@ -394,20 +377,11 @@ def files():
 
 
 def write():
-    for name, content in files().items():
-        with open(os.path.join(CRATE, name), "wb") as out:
-            out.write(content)
+    stored_cases.write("ship_cases", files())
 
 
 def check():
-    wrong = 0
-    for name, content in files().items():
-        if open(os.path.join(CRATE, name), "rb").read() != content:
-            print("ship_cases: crates/ship_cases/%s is not what tools/ship_cases.py builds" % name)
-            wrong = 1
-    if not wrong:
-        print("ship_cases: %d cases, both files as built" % len(cases()))
-    return wrong
+    return stored_cases.check("ship_cases", files(), len(cases()))
 
 
 def show():
@@ -416,11 +390,4 @@ def show():
 
 
 if __name__ == "__main__":
-    if sys.argv[1:] == ["write"]:
-        write()
-    elif sys.argv[1:] == ["check"]:
-        sys.exit(check())
-    elif sys.argv[1:] == ["list"]:
-        show()
-    else:
-        sys.exit(__doc__)
+    stored_cases.run(__doc__, write=write, check=check, list=show)

@@ -4,6 +4,20 @@ import struct
 ALL_ONES = 0xFFFFFFFF
 
 
+def u32(*numbers):
+    return struct.pack("<%dI" % len(numbers), *numbers)
+
+
+def bits(x):
+    """The pattern of a float of one rounding; one more is the next float away from 0."""
+    return struct.unpack("<I", struct.pack("<f", x))[0]
+
+
+def put(some, at, *numbers):
+    """The bytes with these numbers at a place."""
+    return some[:at] + u32(*numbers) + some[at + 4 * len(numbers) :]
+
+
 def deck_blocks(deck):
     """The blocks V, N, P, C, H of a deck: offset (x, y), vertices [(x, y, [neighbours])], polygons [[vertices]], heights []."""
     v = struct.pack("<ff", *deck["offset"])
@@ -11,12 +25,12 @@ def deck_blocks(deck):
     start = 0
     for x, y, neighbours in deck["vertices"]:
         v += struct.pack("<ffII", x, y, start, len(neighbours))
-        n += struct.pack("<%dI" % len(neighbours), *neighbours)
+        n += u32(*neighbours)
         start += len(neighbours)
     start = 0
     for polygon in deck["polygons"]:
-        p += struct.pack("<II", start, len(polygon))
-        c += struct.pack("<%dI" % len(polygon), *polygon)
+        p += u32(start, len(polygon))
+        c += u32(*polygon)
         start += len(polygon)
     return [v, n, p, c, struct.pack("<%df" % len(deck["heights"]), *deck["heights"])]
 
@@ -26,7 +40,7 @@ def file_of_blocks(blocks, reach, steps):
     head = struct.pack("<IfI", len(blocks) // 5, reach, steps)
     at = 12 + 8 * len(blocks)
     for b in blocks:
-        head += struct.pack("<II", at, len(b))
+        head += u32(at, len(b))
         at += len(b)
     return head + b"".join(blocks)
 

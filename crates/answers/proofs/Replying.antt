@@ -6,13 +6,14 @@ use mathlib.Core.Bool.{Bool, true, false, not}
 use mathlib.Core.List.{List, [], _∷_, _++_}
 use lib.ListN.{length, drop, length-append, length-drop}
 use lib.IntN.{ℤ}
+use Rattle.words.specs.Bytes.{joined}
 use Rattle.answers.specs.declared.Check.{Check}
 use Rattle.answers.specs.declared.Check.the-variants.{Passed, No}
 use Rattle.answers.specs.declared.Answer.{Answer}
 use Rattle.answers.specs.declared.Answer.the-variants.{Refused, Wrote}
 use Rattle.answers.specs.Checks.{ask, after}
 use Rattle.answers.specs.Questions.{question20}
-use Rattle.answers.specs.Replies.{Reply, replyCheck, answerFor, outputFor, answerTo, outputTo, Replied, codeOf, AnswerFits, RepliedCode}
+use Rattle.answers.specs.Replies.{Reply, replyOf, replyCheck, answerFor, outputFor, answerTo, outputTo, Replied, codeOf, AnswerFits, RepliedCode}
 use Rattle.answers.proofs.Asking.{said-no, said-yes, asked-yes, both-passed, q20-no, q20-yes, q20-short, q20-fits}
 
 -- ---- the check with 20
@@ -53,8 +54,11 @@ module _ {reply : Reply} {out : List ℕ} {r : Check} (asked : r ≡ reply .chec
     unfolding answerTo outputTo
     replied-written l e o = let c = check-passed reply (length out) (sym asked ∙ yes) l in record { answer-is = rw (c, e); output-is = rw c o }
 
-    pub replied-empty : reply .count ≡ 0 → reply .bytes ≡ [] → Replied reply out out (Wrote 0)
-    replied-empty n b = replied-written (rw b (omega arith)) (sym n) (rw b)
+-- no entry
+pub replied-none : {A : Type 0} {check : Check} (bytesOf : A → List ℕ) (entries : List A) {out : List ℕ} {r : Check} → r ≡ check → r ≡ Passed → entries ≡ []
+    → Replied (replyOf check bytesOf entries) out out (Wrote 0)
+unfolding joined
+replied-none bytesOf entries asked passed e = replied-written asked passed (rw e (omega arith)) (rw e) (rw e)
 
 -- 20 was asked by a call of `room_for`, of as many entries of one size
 module _ (reply : Reply) (out : List ℕ) (size count : ℕ) {fits : Bool} (long : length (reply .bytes) ≡ size * count)
@@ -65,7 +69,7 @@ module _ (reply : Reply) (out : List ℕ) (size count : ℕ) {fits : Bool} (long
   pub room-fits : not fits ≡ false → length (reply .bytes) ≤ length out
   room-fits room = rw long (q20-fits (size * count) (length out) (said-yes said room))
 
-pub ruleset replying = (replied-refused, replied-short, replied-written, replied-empty, room-short, room-fits)
+pub ruleset replying = (replied-refused, replied-short, replied-written, replied-none, room-short, room-fits)
 
 -- ---- what a caller learns
 pub output-length : (reply : Reply) (out : List ℕ) → length (outputTo reply out) ≡ length out
@@ -75,6 +79,15 @@ output-length reply out = go (replyCheck reply (length out)) refl
     go : (c : Check) → replyCheck reply (length out) ≡ c → length (outputFor c (reply .bytes) out) ≡ length out
     go Passed e = let l = passed-check reply (length out) e .1 in simp (length-append, length-drop) (omega arith)
     go (No number) e = refl
+
+module _ (reply : Reply) (out : List ℕ) (passed : replyCheck reply (length out) ≡ Passed) where
+  pub answer-passed : answerTo reply out ≡ Wrote (reply .count)
+  unfolding answerTo
+  answer-passed = rw passed
+
+  pub output-passed : outputTo reply out ≡ reply .bytes ++ drop (length (reply .bytes)) out
+  unfolding outputTo
+  output-passed = rw passed
 
 module _ {reply : Reply} {out out′ : List ℕ} {r : Answer} (replied : Replied reply out out′ r) where
   pub replied-length : length out′ ≡ length out

@@ -1,6 +1,5 @@
 pub mod MillionTest
 pub mod Queries
-pub mod Entries
-pub mod Runs
-pub mod Answered
-pub mod HeightAsks
+pub mod EntryLoop
+pub mod ClosestCalls
+pub mod HeightCalls

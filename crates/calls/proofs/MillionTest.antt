@@ -11,7 +11,7 @@ use lib.Ieee.{Float, nan, inf, fin, up, down, binary32, ofBits, neg, lt, le, eq}
 use lib.Ieee.Fits.{down-pos}
 use borrow.Author.Tests.{lt-ltb, le-ltb, le-leb, lt-leb, eq-eqb, ne-eqb}
 use Rattle.ship.specs.Floats.{sizeAtMost, inSize}
-use Rattle.survey.proofs.Members.{three}
+use Rattle.words.proofs.Collecting.{three}
 
 abbrev million : Float
 million = ofBits binary32 0x49742400

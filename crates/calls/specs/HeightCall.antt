@@ -1,25 +1,39 @@
 -- Document 01, section 6: the separate height call, which takes a place and a packed polygon, whose deck it uses.
-use Prim.Native.Nat.{ℕ, _*_}
+use Prim.Native.Nat.{ℕ}
 use mathlib.Core.List.{List, [], _∷_}
 use mathlib.Core.Bool.{Bool, _||_, cond}
 use lib.Dec.{eqb, ltb}
 use lib.ListN.{length}
-use lib.Ieee.{binary32, toBits}
+use lib.IntN.{ℤ}
+use lib.Ieee.{Float, binary32, toBits}
 use Rattle.geometry.specs.declared.Vec2.{Vec2}
 use Rattle.geometry.specs.declared.Height.{Height}
 use Rattle.geometry.specs.declared.Height.the-variants.{Known, None}
-use Rattle.words.specs.Bytes.{wordsOf}
-use Rattle.ship.specs.declared.FileCheck.{FileCheck}
-use Rattle.ship.specs.declared.FileCheck.the-variants.{Passed}
+use Rattle.words.specs.Bytes.{allOnes, bytes4}
+use Rattle.answers.specs.declared.Check.{Check}
+use Rattle.answers.specs.declared.Check.the-variants.{Passed}
+use Rattle.answers.specs.Checks.{ask, after}
+use Rattle.answers.specs.Replies.{Reply, replyOf, RepliedCode}
 use Rattle.ship.specs.Blocks.{decksIn}
 use Rattle.ship.specs.Decode.{decode}
 use Rattle.ship.specs.Model.{deckOf}
 use Rattle.ship.specs.Packed.{packedDeck, packedPolygon}
-use Rattle.ship.specs.Questions.{ask, after, firstNo}
-use Rattle.survey.specs.Record.{allOnes}
+use Rattle.ship.specs.Questions.{firstNo}
 use Rattle.search.specs.OnDeck.{heightOn}
-use Rattle.calls.specs.declared.Answer.{Answer}
-use Rattle.calls.specs.Answers.{question16, question20, answerOf, outputOf}
+use Rattle.calls.specs.Closest.{pointOfParts, question16}
+
+-- 17 the named deck there? All ones passes.
+unfoldable pub question17Height : List ℕ → ℕ → Bool
+question17Height file polygon = eqb polygon allOnes || ltb (packedDeck polygon) (decksIn file)
+
+-- 18 polygon there? All ones passes.
+unfoldable pub question18 : List ℕ → ℕ → Bool
+question18 file polygon = eqb polygon allOnes || ltb (packedPolygon polygon) (length (deckOf (decode file) (packedDeck polygon) .polygons))
+
+-- the questions of a height call before 20
+unfoldable pub heightCheck : List ℕ → Vec2 → ℕ → Check
+heightCheck file p polygon =
+    after (firstNo file) (ask (question16 p) 16 (ask (question17Height file polygon) 17 (ask (question18 file polygon) 18 Passed)))
 
 -- for all ones there is no height
 unfoldable pub heightCall : List ℕ → Vec2 → ℕ → Height
@@ -30,28 +44,8 @@ abbrev pub heightEntry : Height → List ℕ
 heightEntry None = []
 heightEntry (Known h) = toBits binary32 h ∷ []
 
--- 17 the named deck there? All ones passes.
-unfoldable pub question17Height : List ℕ → ℕ → Bool
-question17Height file polygon = eqb polygon allOnes || ltb (packedDeck polygon) (decksIn file)
+abbrev pub heightReply : List ℕ → Vec2 → ℕ → Reply
+heightReply file p polygon = replyOf (heightCheck file p polygon) bytes4 (heightEntry (heightCall file p polygon))
 
--- 18 polygon there? All ones passes.
-unfoldable pub question18 : List ℕ → ℕ → Bool
-question18 file polygon = eqb polygon allOnes || ltb (packedPolygon polygon) (length (deckOf (decode file) (packedDeck polygon) .polygons))
-
--- the questions in order: those of the place and the polygon, then 20 for this very answer
-unfoldable pub heightQuery : List ℕ → Vec2 → ℕ → FileCheck
-heightQuery file p polygon =
-    after (firstNo file) (ask (question16 p) 16 (ask (question17Height file polygon) 17 (ask (question18 file polygon) 18 Passed)))
-
-unfoldable pub heightCheck : List ℕ → Vec2 → ℕ → ℕ → FileCheck
-heightCheck file p polygon room =
-    after (firstNo file)
-    (ask (question16 p) 16
-    (ask (question17Height file polygon) 17
-    (ask (question18 file polygon) 18 (ask (question20 (4 * length (heightEntry (heightCall file p polygon))) room) 20 Passed))))
-
-abbrev pub heightAnswer : List ℕ → Vec2 → ℕ → List ℕ → Answer
-heightAnswer file p polygon out = answerOf (heightCheck file p polygon (length out)) (length (heightEntry (heightCall file p polygon)))
-
-abbrev pub heightOutput : List ℕ → Vec2 → ℕ → List ℕ → List ℕ
-heightOutput file p polygon out = outputOf (heightCheck file p polygon (length out)) (wordsOf (heightEntry (heightCall file p polygon))) out
+abbrev pub HeightCode : List ℕ → Float → Float → ℕ → List ℕ → List ℕ → ℤ → Type 0
+HeightCode file x y polygon out out′ r = RepliedCode (heightReply file (pointOfParts x y) polygon) out out′ r

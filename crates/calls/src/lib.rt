@@ -1,34 +1,24 @@
 // The calls that answer one query: the closest points on the decks, and the height at a place (document 01, sections 5 and 6).
 ghost use mathlib.Core.Path.{_≡_};
-ghost use mathlib.Core.List.{_++_};
-ghost use Prim.Native.Nat.{_+_, _-_, _*_, _^_, _≤_, _<_};
-ghost use lib.ListN.{length, drop};
+ghost use Prim.Native.Nat.{_+_, _*_, _^_, _≤_};
+ghost use lib.ListN.{length};
 ghost use Rattle.geometry.specs.Bounds.{PointWithin, HeightWithin};
-ghost use Rattle.words.specs.Bytes.{joined, splice};
-ghost use Rattle.ring.specs.Table.{directions};
-ghost use Rattle.ship.specs.Blocks.{decksIn};
+ghost use Rattle.words.specs.Bytes.{splice};
+ghost use Rattle.answers.specs.declared.Check.the-variants.{Passed};
+ghost use Rattle.answers.specs.Replies.{Replied};
 ghost use Rattle.ship.specs.Floats.{inSize};
-ghost use Rattle.ship.specs.declared.FileCheck.the-variants.{Passed};
-ghost use Rattle.survey.specs.Search.{turn, given, passing, candidates};
-ghost use Rattle.placing.specs.Sees.{seenBy, OnPassedDeck, SearchReady};
-ghost use Rattle.calls.specs.Answers.{question16, question17};
-ghost use Rattle.calls.specs.Closest.{askedAt, entryBytes, candidateBytes, Written, queryCheck, closestPoints, closestPoint, closestAnswer, closestOutput};
-ghost use Rattle.calls.specs.HeightCall.{heightCall, heightQuery, heightAnswer, heightOutput};
+ghost use Rattle.walking.specs.Sees.{seenBy};
+ghost use Rattle.calls.specs.Closest.{question16, askedAt, entrySize, entryBytes, queryCheck, PointsReplied, PointReplied, StepPut, PutReady, CountReady, StepReplied};
+ghost use Rattle.calls.specs.HeightCall.{heightCall, heightCheck, heightReply};
+use answers::Answer;
+use answers::Check;
 use geometry::Height;
 use geometry::Vec2;
-use placing::Placement;
-use placing::Seat;
-use ship::Blocks;
-use ship::FileCheck;
-use survey::Candidate;
-use survey::Hit;
+use survey::Seat;
 use survey::Wish;
+use walking::Next;
 
-// The number of the question that was not passed, or how many entries were written.
-pub enum Answer {
-    Refused(u32),
-    Wrote(usize),
-}
+pub const ENTRY_SIZE: usize = 12;
 
 // Question 16 of a float that did not come from bytes: a NaN fails both comparisons.
 fn float_in_size(x: f32) -> bool
@@ -43,31 +33,24 @@ fn place_in_size(p: Vec2) -> bool
     float_in_size(p.x) && float_in_size(p.y)
 }
 
-// Question 17.
-pub fn deck_there(decks: usize, deck: u32) -> bool
-    ensures { λ r. ⌜ r ≡ question17 decks deck ⌝ }
-{
-    deck == 0xFFFF_FFFF || (deck as usize) < decks
-}
-
 // Questions 1 to 17 of a query.
-fn query_check(file: &[u8], p: Vec2, deck: u32, blocked: &[u8]) -> FileCheck
+fn query_check(file: &[u8], p: Vec2, deck: u32, blocked: &[u8]) -> Check
     ensures { λ r. ⌜ r ≡ queryCheck (now (file .entry)) p deck (now (blocked .entry)) ⌝ }
 {
     match ship::first_no(file) {
-        FileCheck::No(number) => return FileCheck::No(number),
-        FileCheck::Passed => {}
+        Check::No(number) => return Check::No(number),
+        Check::Passed => {}
     }
-    if blocked.len() != 32 {
-        return FileCheck::No(14);
+    if !answers::blocked_whole(blocked) {
+        return Check::No(14);
     }
     if !place_in_size(p) {
-        return FileCheck::No(16);
+        return Check::No(16);
     }
-    if !deck_there(decks::deck_count(file), deck) {
-        return FileCheck::No(17);
+    if !answers::deck_there(decks::deck_count(file), deck) {
+        return Check::No(17);
     }
-    FileCheck::Passed
+    Check::Passed
 }
 
 // A query searches as a seat without a wish.
@@ -76,99 +59,61 @@ fn asked_at(p: Vec2, deck: u32) -> Seat
 {
     Seat {
         place: p,
-        choice: placing::choice_of(deck),
+        choice: survey::choice_of(deck),
         wish: Wish::NoWish,
     }
 }
 
-// A candidate's 12 bytes, as entry n.
+// A candidate's entry, as number n.
 fn put_candidate(out: &mut [u8], n: usize, polygon: u32, place: Vec2)
-    requires { ⌜ (12 * n + 12 ≤ length (now out)) × PointWithin 3015000 place ⌝ }
-    ensures { λ r. ⌜ now (out .exit) ≡ splice (now (out .entry)) (12 * n) (entryBytes polygon place) ⌝ }
+    requires { ⌜ (entrySize * n + entrySize ≤ length (now out)) × PointWithin 3015000 place ⌝ }
+    ensures { λ _. ⌜ now (out .exit) ≡ splice (now (out .entry)) (entrySize * n) (entryBytes polygon place) ⌝ }
 {
     let words = [polygon, f32::to_bits(place.x), f32::to_bits(place.y)];
-    words::put_words(out, 12 * n, &words)
+    words::put_words(out, ENTRY_SIZE * n, &words)
 }
 
-// The polygons that pass at the sample of `from`, from its polygon on, written from entry n on. The deck lies at b.
-fn put_passing(
-    file: &[u8],
-    blocked: &[u8],
-    table: &[i32; 2432],
-    seat: Seat,
-    b: Blocks,
-    from: Candidate,
-    out: &mut [u8],
-    n: usize,
-) -> usize
-    requires { ⌜ OnPassedDeck (now file) b from × ((now table ≡ directions) × (PointWithin 1000000 (seat .place) × (12 * (n + length (passing (seenBy (now file) (now blocked) seat) (from .step) (from .deck) (from .sample) (from .polygon) (b .polygons - from .polygon))) ≤ length (now out)))) ⌝ }
-    ensures { λ r. ⌜ Written (seenBy (now (file .entry)) (now (blocked .entry)) seat) (passing (seenBy (now (file .entry)) (now (blocked .entry)) seat) (from .step) (from .deck) (from .sample) (from .polygon) (b .polygons - from .polygon)) (now (out .entry)) n (now (out .exit)) r ⌝ }
+// The candidates of step s, written from the first byte on.
+fn put_step(file: &[u8], blocked: &[u8], table: &[i32; 2432], seat: Seat, s: usize, out: &mut [u8])
+    requires { ⌜ PutReady (now file) (now blocked) (now table) seat s (now out) ⌝ }
+    ensures { λ _. ⌜ StepPut (seenBy (now (file .entry)) (now (blocked .entry)) seat) s (now (out .entry)) (now (out .exit)) ⌝ }
 {
-    let q = placing::sample_on(file, table, seat.place, b, from);
-    let place = geometry::add(q, decks::offset(file, b));
-    let polygons = b.polygons;
-    let mut written = n;
-    let mut k = from.polygon;
-    'polygons: while k < polygons {
-        let polygon = k;
-        k += 1;
-        if search::point_in_polygon(file, b, polygon, q) {
-            put_candidate(out, written, decks::packed(from.deck, polygon), place);
-            written += 1;
+    let mut n: usize = 0;
+    let mut next = walking::first(file, blocked, table, seat, s);
+    'candidates: loop {
+        match next {
+            Next::Ended(_) => return,
+            Next::Reached(c, _) => {
+                let place = walking::place_of(file, table, seat.place, c);
+                put_candidate(out, n, decks::packed(c.deck, c.polygon), place);
+                n += 1;
+                next = walking::after(file, blocked, table, seat, c);
+            }
         }
     }
-    written
 }
 
-// Deck d's candidates in step s, written from entry n on.
-fn put_turn(
+// The candidates of step s, of which there are `count`, where the output has room for them.
+fn put_counted(
     file: &[u8],
     blocked: &[u8],
     table: &[i32; 2432],
     seat: Seat,
     s: usize,
-    d: usize,
+    count: usize,
     out: &mut [u8],
-    n: usize,
-) -> usize
-    requires { ⌜ SearchReady (now file) (now table) seat s × ((d < decksIn (now file)) × (12 * (n + length (given (seenBy (now file) (now blocked) seat) s d (turn (seenBy (now file) (now blocked) seat) s d))) ≤ length (now out))) ⌝ }
-    ensures { λ r. ⌜ Written (seenBy (now (file .entry)) (now (blocked .entry)) seat) (given (seenBy (now (file .entry)) (now (blocked .entry)) seat) s d (turn (seenBy (now (file .entry)) (now (blocked .entry)) seat) s d)) (now (out .entry)) n (now (out .exit)) r ⌝ }
+) -> Answer
+    requires { ⌜ CountReady (now file) (now blocked) (now table) seat s count ⌝ }
+    ensures { λ r. ⌜ StepReplied (now (file .entry)) (now (blocked .entry)) seat s (now (out .entry)) (now (out .exit)) r ⌝ }
 {
-    let b = decks::deck_blocks(file, d);
-    let around = geometry::sub(seat.place, decks::offset(file, b));
-    match search::first_hit(file, b, table, around, decks::reach(file), s) {
-        Hit::Missed => n,
-        Hit::At(i, k) => {
-            let from = Candidate {
-                step: s,
-                deck: d,
-                sample: i,
-                polygon: k,
-            };
-            put_passing(file, blocked, table, seat, b, from, out, n)
-        }
+    if !answers::room_for(ENTRY_SIZE, count, out.len()) {
+        return Answer::Refused(20);
     }
+    put_step(file, blocked, table, seat, s, out);
+    Answer::Wrote(count)
 }
 
-// The candidates of step s, written from the first byte on.
-fn put_step(file: &[u8], blocked: &[u8], table: &[i32; 2432], seat: Seat, s: usize, out: &mut [u8])
-    requires { ⌜ SearchReady (now file) (now table) seat s × ((length (now blocked) ≡ 32) × (12 * length (candidates (seenBy (now file) (now blocked) seat) s) ≤ length (now out))) ⌝ }
-    ensures { λ r. ⌜ now (out .exit) ≡ joined (candidateBytes (seenBy (now (file .entry)) (now (blocked .entry)) seat)) (candidates (seenBy (now (file .entry)) (now (blocked .entry)) seat) s) ++ drop (12 * length (candidates (seenBy (now (file .entry)) (now (blocked .entry)) seat) s)) (now (out .entry)) ⌝ }
-{
-    let decks = decks::deck_count(file);
-    let choice = seat.choice;
-    let mut n: usize = 0;
-    let mut d: usize = 0;
-    'decks: while d < decks {
-        let deck = d;
-        d += 1;
-        if survey::is_open(blocked, choice, deck) {
-            n = put_turn(file, blocked, table, seat, s, deck, out, n);
-        }
-    }
-}
-
-// The candidates of the first step with a hit, 12 bytes each.
+// The candidates of the first step with any. The first search counts them, since question 20 comes before a byte is written.
 pub fn get_closest_points_on_layers(
     file: &[u8],
     p: Vec2,
@@ -176,30 +121,31 @@ pub fn get_closest_points_on_layers(
     blocked: &[u8],
     out: &mut [u8],
 ) -> Answer
-    ensures answer { λ r. ⌜ r ≡ closestAnswer (now (file .entry)) p deck (now (blocked .entry)) (closestPoints (now (file .entry)) p deck (now (blocked .entry))) (now (out .entry)) ⌝ }
-    ensures output { λ r. ⌜ now (out .exit) ≡ closestOutput (now (file .entry)) p deck (now (blocked .entry)) (closestPoints (now (file .entry)) p deck (now (blocked .entry))) (now (out .entry)) ⌝ }
+    ensures { λ r. ⌜ PointsReplied (now (file .entry)) p deck (now (blocked .entry)) (now (out .entry)) (now (out .exit)) r ⌝ }
 {
     match query_check(file, p, deck, blocked) {
-        FileCheck::No(number) => return Answer::Refused(number),
-        FileCheck::Passed => {}
+        Check::No(number) => return Answer::Refused(number),
+        Check::Passed => {}
     }
     let table = ring::all_directions();
     let seat = asked_at(p, deck);
-    match placing::place_seat(file, blocked, &table, seat) {
-        Placement::Unplaced(_) => Answer::Wrote(0),
-        Placement::PlacedAt(found) => {
-            let count = found.candidates;
-            let c = found.candidate;
-            if out.len() < 12 * count {
-                return Answer::Refused(20);
-            }
-            put_step(file, blocked, &table, seat, c.step, out);
-            Answer::Wrote(count)
-        }
+    let found = placing::place_seat(file, blocked, &table, seat);
+    if records::unplaced(found) {
+        return Answer::Wrote(0);
     }
+    let step = found.step as usize;
+    put_counted(
+        file,
+        blocked,
+        &table,
+        seat,
+        step,
+        found.candidates as usize,
+        out,
+    )
 }
 
-// The first of them, or none.
+// The first of them, or none. It is what the record of such a seat begins with.
 pub fn get_closest_point_on_layers(
     file: &[u8],
     p: Vec2,
@@ -207,55 +153,53 @@ pub fn get_closest_point_on_layers(
     blocked: &[u8],
     out: &mut [u8],
 ) -> Answer
-    ensures answer { λ r. ⌜ r ≡ closestAnswer (now (file .entry)) p deck (now (blocked .entry)) (closestPoint (now (file .entry)) p deck (now (blocked .entry))) (now (out .entry)) ⌝ }
-    ensures output { λ r. ⌜ now (out .exit) ≡ closestOutput (now (file .entry)) p deck (now (blocked .entry)) (closestPoint (now (file .entry)) p deck (now (blocked .entry))) (now (out .entry)) ⌝ }
+    ensures { λ r. ⌜ PointReplied (now (file .entry)) p deck (now (blocked .entry)) (now (out .entry)) (now (out .exit)) r ⌝ }
 {
     match query_check(file, p, deck, blocked) {
-        FileCheck::No(number) => return Answer::Refused(number),
-        FileCheck::Passed => {}
+        Check::No(number) => return Answer::Refused(number),
+        Check::Passed => {}
     }
     let table = ring::all_directions();
-    match placing::place_seat(file, blocked, &table, asked_at(p, deck)) {
-        Placement::Unplaced(_) => Answer::Wrote(0),
-        Placement::PlacedAt(found) => {
-            let c = found.candidate;
-            if out.len() < 12 {
-                return Answer::Refused(20);
-            }
-            put_candidate(out, 0, decks::packed(c.deck, c.polygon), found.place);
-            Answer::Wrote(1)
-        }
+    let found = placing::place_seat(file, blocked, &table, asked_at(p, deck));
+    if records::unplaced(found) {
+        return Answer::Wrote(0);
     }
+    if !answers::room_for(ENTRY_SIZE, 1, out.len()) {
+        return Answer::Refused(20);
+    }
+    let words = [found.polygon, found.x, found.y];
+    words::put_words(out, 0, &words);
+    Answer::Wrote(1)
 }
 
 // Questions 1 to 18 of a place and a packed polygon.
-fn height_check(file: &[u8], p: Vec2, polygon: u32) -> FileCheck
-    ensures { λ r. ⌜ r ≡ heightQuery (now (file .entry)) p polygon ⌝ }
+fn height_check(file: &[u8], p: Vec2, polygon: u32) -> Check
+    ensures { λ r. ⌜ r ≡ heightCheck (now (file .entry)) p polygon ⌝ }
 {
     match ship::first_no(file) {
-        FileCheck::No(number) => return FileCheck::No(number),
-        FileCheck::Passed => {}
+        Check::No(number) => return Check::No(number),
+        Check::Passed => {}
     }
     if !place_in_size(p) {
-        return FileCheck::No(16);
+        return Check::No(16);
     }
     if polygon == 0xFFFF_FFFF {
-        return FileCheck::Passed;
+        return Check::Passed;
     }
     let d = decks::packed_deck(polygon);
     if d >= decks::deck_count(file) {
-        return FileCheck::No(17);
+        return Check::No(17);
     }
     let b = decks::deck_blocks(file, d);
     if decks::packed_polygon(polygon) >= b.polygons {
-        return FileCheck::No(18);
+        return Check::No(18);
     }
-    FileCheck::Passed
+    Check::Passed
 }
 
 // The height at a place and of a polygon that passed them.
 fn height_asked(file: &[u8], p: Vec2, polygon: u32) -> Height
-    requires { ⌜ heightQuery (now file) p polygon ≡ Passed ⌝ }
+    requires { ⌜ heightCheck (now file) p polygon ≡ Passed ⌝ }
     ensures { λ r. ⌜ (r ≡ heightCall (now (file .entry)) p polygon) × HeightWithin (2 ^ 121) r ⌝ }
 {
     if polygon == 0xFFFF_FFFF {
@@ -267,12 +211,11 @@ fn height_asked(file: &[u8], p: Vec2, polygon: u32) -> Height
 
 // The height at a place of a packed polygon, as one entry of its bits, or no entry.
 pub fn height(file: &[u8], p: Vec2, polygon: u32, out: &mut [u8]) -> Answer
-    ensures answer { λ r. ⌜ r ≡ heightAnswer (now (file .entry)) p polygon (now (out .entry)) ⌝ }
-    ensures output { λ r. ⌜ now (out .exit) ≡ heightOutput (now (file .entry)) p polygon (now (out .entry)) ⌝ }
+    ensures { λ r. ⌜ Replied (heightReply (now (file .entry)) p polygon) (now (out .entry)) (now (out .exit)) r ⌝ }
 {
     match height_check(file, p, polygon) {
-        FileCheck::No(number) => return Answer::Refused(number),
-        FileCheck::Passed => {}
+        Check::No(number) => return Answer::Refused(number),
+        Check::Passed => {}
     }
     match height_asked(file, p, polygon) {
         Height::None => Answer::Wrote(0),

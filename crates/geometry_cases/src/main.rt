@@ -1,6 +1,6 @@
 // Runs the cases of tools/geometry_cases.py. A case is a line: a letter for the function, then its arguments, each a space and 8
-// hexadecimal digits (a float by its bit pattern). The answer is a line of the same form, with `nan` for a NaN, `-` for no height,
-// and the one word `bad` for a line that is no case or asks for what the function does not take.
+// hexadecimal digits, capitals (a float by its bit pattern). The answer is a line of the same form with lower-case digits, `nan` for a
+// NaN, `-` for no height, and the one word `bad` for a line that is no case or asks for what the function does not take.
 ghost use mathlib.Core.Path.{_≡_};
 ghost use Prim.Native.Nat.{_+_, _*_, _<_, _≤_};
 ghost use lib.ListN.{length};
@@ -229,18 +229,9 @@ fn print(text: &[u8]) {
     io::write_all(STDOUT_FILENO, text);
 }
 
-// A space and the 8 digits of n.
 fn print_word(n: u32) {
-    let mut text = [b' '; 9];
-    let mut rest = n;
-    let mut k: usize = 8;
-    while k > 0 {
-        let d = (rest % 16) as u8;
-        text[k] = if d < 10 { 48 + d } else { 55 + d };
-        rest = rest / 16;
-        k -= 1;
-    }
-    print(&text);
+    print(b" ");
+    io::print_hex(STDOUT_FILENO, n as u64, 8);
 }
 
 // The bit pattern of a NaN cannot be asked for; a NaN is what does not equal itself.

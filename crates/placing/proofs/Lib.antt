@@ -1,7 +1,4 @@
-pub mod Tallies
-pub mod Seen
-pub mod Ways
-pub mod PolygonLoop
-pub mod DeckLoop
+pub mod Choosing
+pub mod CandidateLoop
 pub mod StepLoop
-pub mod Numbers
+pub mod SeatRecords

@@ -4,21 +4,24 @@ use mathlib.Core.Path.{_≡_, refl, sym, ap, _∙_, subst}
 use mathlib.Core.List.{List, [], _∷_}
 use native.Mathlib.Omega.{arith}
 use native.Mathlib.Numerals.{add-one}
-use lib.IntN.{ℤ}
+use lib.ListN.{length}
 use Rattle.geometry.specs.declared.Vec2.{Vec2}
 use Rattle.geometry.specs.declared.Height.{Height}
+use Rattle.records.specs.declared.SeatRecord.{SeatRecord}
+use Rattle.records.specs.Record.{unplacedRecord}
+use Rattle.hits.specs.declared.Candidate.{Candidate}
 use Rattle.ship.specs.Decode.{decode}
-use Rattle.survey.specs.declared.Candidate.{Candidate}
+use Rattle.survey.specs.declared.Seat.{Seat}
 use Rattle.survey.specs.View.{View}
-use Rattle.survey.specs.Search.{candidates, triedIn, triedBefore, firstStep}
-use Rattle.survey.proofs.Loops.{firstStep-more-yes, firstStep-more-no, firstStep-none}
-use Rattle.placing.specs.declared.Seat.{Seat}
-use Rattle.placing.specs.declared.Choice.the-variants.{NoneYet, Chosen}
+use Rattle.survey.specs.Record.{recordAtPlace}
+use Rattle.survey.specs.Search.{candidates, triedIn, triedBefore, bestOf, firstStep, seatRecord}
+use Rattle.survey.proofs.Loops.{first-step-yes, first-step-no, first-step-none}
+use Rattle.walking.specs.Sees.{seenBy, CandidateWithin}
+use Rattle.placing.specs.declared.Best.{Best}
+use Rattle.placing.specs.declared.Best.the-variants.{NoneYet, Chosen}
 use Rattle.placing.specs.declared.Tally.{Tally}
-use Rattle.placing.specs.declared.Placement.the-variants.{Unplaced, PlacedAt}
-use Rattle.placing.specs.Sees.{seenBy, SearchReady}
-use Rattle.placing.specs.Tally.{stepTally, CandidateWithin, ChoiceWithin, TallyWithin, placementAt, placementOf}
-use Rattle.placing.proofs.Tallies.{step-none, step-chosen}
+use Rattle.placing.specs.Tally.{bestFrom, stepTally, BestWithin, TallyWithin, CountsWithin}
+use Rattle.placing.proofs.Choosing.{chosenAt, best-from-none}
 
 -- the steps below s have no candidate
 pub record Searching (file blocked : List ℕ) (seat : Seat) (tried s : ℕ) : Type 0 where
@@ -35,27 +38,39 @@ searching-all file blocked seat =
 none-chosen : {c : Candidate} {place : Vec2} {g : Height} → NoneYet ≡ Chosen c place g → ⊥
 none-chosen e = let z : _≡_ {A = ℕ} 0 1 = cc in omega arith
 
-pub ready-at : {file : List ℕ} {table : List ℤ} {seat : Seat} {s n : ℕ} → SearchReady file table seat 0 → n ≤ 16 → s < n → SearchReady file table seat s
-ready-at r few l = record { file-passed = r .file-passed; table-is = r .table-is; place-within = r .place-within; step-below = omega arith }
+module _ {m : ℕ} {t : Tally} (w : TallyWithin m t) where
+  pub best-placed : {c : Candidate} {place : Vec2} {g : Height} → t .best ≡ Chosen c place g → CandidateWithin c place g
+  best-placed e = subst BestWithin e (w .best-within)
 
-pub choice-placed : {tried candidates : ℕ} {t : Tally} {c : Candidate} {place : Vec2} {g : Height} → TallyWithin tried candidates t → t .choice ≡ Chosen c place g → CandidateWithin c place g
-choice-placed w e = subst ChoiceWithin e (w .choice-within)
+  pub counts-within : m ≤ 16 → CountsWithin (t .tried) (t .candidates)
+  counts-within l = record { tried-few = omega (arith, w .tried-within); candidates-few = w .candidates-within }
 
 module _ {file blocked : List ℕ} {seat : Seat} {tried s n : ℕ} (h : Searching file blocked seat tried s) (all : n ≡ decode file .steps) where
-  pub searching-none : s ≤ n → n ≤ s → Unplaced tried ≡ placementOf (seenBy file blocked seat) (decode file .steps)
-  unfolding placementOf placementAt
-  searching-none l m =
+  pub searching-few : s ≤ n → n ≤ 16 → tried ≤ 618496
+  searching-few l m = omega (arith, h .few)
+
+  pub searching-none : {r : SeatRecord} → r ≡ unplacedRecord tried → s ≤ n → n ≤ s → r ≡ seatRecord (seenBy file blocked seat) (decode file .steps)
+  unfolding seatRecord
+  searching-none e l m =
       let v = seenBy file blocked seat in
-      let e : s ≡ decode file .steps = omega arith in
-      rw (h .same, firstStep-none v s (decode file .steps) (omega arith)) (ap Unplaced (h .before ∙ ap (triedBefore v) e))
+      let q : s ≡ decode file .steps = omega arith in
+      e ∙ rw (h .same, first-step-none v s (decode file .steps) (omega arith)) (ap unplacedRecord (h .before ∙ ap (triedBefore v) q))
 
   module _ {t : Tally} (l : s < n) (taken : t ≡ stepTally (seenBy file blocked seat) s tried) where
     -- the samples tried, this step's with them
-    tried-next : tried + triedIn (seenBy file blocked seat) s ≡ triedBefore (seenBy file blocked seat) (suc s)
-    unfolding triedBefore
-    tried-next = ap (λ (m : ℕ). m + triedIn (seenBy file blocked seat) s) (h .before)
+    tried-next : t .tried ≡ triedBefore (seenBy file blocked seat) (suc s)
+    unfolding triedBefore stepTally
+    tried-next = rw taken (ap (λ (m : ℕ). m + triedIn (seenBy file blocked seat) s) (h .before))
 
-    pub searching-more : {m : ℕ} → t .choice ≡ NoneYet → TallyWithin (38656 * (s + 1)) m t → Searching file blocked seat (t .tried) (s + 1)
+    best-next : t .best ≡ bestFrom (seenBy file blocked seat) NoneYet (candidates (seenBy file blocked seat) s)
+    unfolding stepTally
+    best-next = rw taken
+
+    count-next : t .candidates ≡ length (candidates (seenBy file blocked seat) s)
+    unfolding stepTally
+    count-next = rw taken
+
+    pub searching-more : t .best ≡ NoneYet → TallyWithin (s + 1) t → Searching file blocked seat (t .tried) (s + 1)
     searching-more none w = go (candidates v s) refl
       where
         v : View
@@ -64,28 +79,31 @@ module _ {file blocked : List ℕ} {seat : Seat} {tried s n : ℕ} (h : Searchin
         go : (cs : List Candidate) → candidates v s ≡ cs → Searching file blocked seat (t .tried) (s + 1)
         go [] e =
             record {
-              same = h .same ∙ firstStep-more-no v s (decode file .steps) (omega arith) e;
-              before = ap (λ (u : Tally). u .tried) (taken ∙ step-none v s tried e) ∙ tried-next ∙ ap (triedBefore v) (sym (add-one s));
+              same = h .same ∙ first-step-no v s (decode file .steps) (omega arith) e;
+              before = tried-next ∙ ap (triedBefore v) (sym (add-one s));
               few = w .tried-within;
             }
-        go (c ∷ rest) e = absurd (none-chosen (sym none ∙ ap (λ (u : Tally). u .choice) (taken ∙ step-chosen v s tried c rest e)))
+        go (c ∷ rest) e =
+            let chosen : t .best ≡ chosenAt v (bestOf v c rest) = best-next ∙ rw e (best-from-none v c rest) in
+            absurd (none-chosen (sym none ∙ chosen))
 
-    pub searching-found : {c : Candidate} {place : Vec2} {g : Height} → t .choice ≡ Chosen c place g
-        → PlacedAt (record { candidate = c; place = place; height = g; tried = t .tried; candidates = t .candidates }) ≡ placementOf (seenBy file blocked seat) (decode file .steps)
-    unfolding placementOf placementAt
-    searching-found {c} {place} {g} is = go (candidates v s) refl
+    pub searching-found : {c : Candidate} {place : Vec2} {g : Height} {r : SeatRecord} → t .best ≡ Chosen c place g
+        → r ≡ recordAtPlace c place g (t .tried) (t .candidates) → r ≡ seatRecord (seenBy file blocked seat) (decode file .steps)
+    unfolding seatRecord bestFrom
+    searching-found {c} {place} {g} {r} is made = go (candidates v s) refl
       where
         v : View
         v = seenBy file blocked seat
 
-        go : (cs : List Candidate) → candidates v s ≡ cs
-            → PlacedAt (record { candidate = c; place = place; height = g; tried = t .tried; candidates = t .candidates }) ≡ placementOf v (decode file .steps)
-        go [] e = absurd (none-chosen (sym (ap (λ (u : Tally). u .choice) (taken ∙ step-none v s tried e)) ∙ is))
+        go : (cs : List Candidate) → candidates v s ≡ cs → r ≡ seatRecord v (decode file .steps)
+        go [] e =
+            let none : t .best ≡ NoneYet = best-next ∙ rw e in
+            absurd (none-chosen (sym none ∙ is))
         go (first ∷ rest) e =
-            let q = taken ∙ step-chosen v s tried first rest e in
-            let same-tried : t .tried ≡ triedBefore v (suc s) = ap (λ (u : Tally). u .tried) q ∙ tried-next in
-            let same-count = ap (λ (u : Tally). u .candidates) q in
-            let same-choice = sym is ∙ ap (λ (u : Tally). u .choice) q in
-            rw (h .same, firstStep-more-yes v s (decode file .steps) first rest (omega arith) e) (cc)
+            let chosen : t .best ≡ chosenAt v (bestOf v first rest) = best-next ∙ rw e (best-from-none v first rest) in
+            let same-c : c ≡ bestOf v first rest = cc in
+            let same-place : place ≡ v .shown .place (bestOf v first rest) = cc in
+            let same-height : g ≡ v .shown .height (bestOf v first rest) = cc in
+            made ∙ rw (h .same, first-step-yes v s (decode file .steps) first rest (omega arith) e, same-c, same-place, same-height, tried-next, count-next, e)
 
-pub ruleset searching = (searching-all, ready-at, choice-placed, searching-none, searching-more, searching-found)
+pub ruleset searching = (searching-all, best-placed, counts-within, searching-few, searching-none, searching-more, searching-found)

@@ -1,2 +1,1 @@
-pub mod Sees
 pub mod Tally

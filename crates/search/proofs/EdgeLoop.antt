@@ -6,7 +6,7 @@ use lib.ListN.{length, getD, drop}
 use Rattle.geometry.specs.declared.Vec2.{Vec2}
 use Rattle.geometry.specs.declared.EdgeTest.{EdgeTest}
 use Rattle.geometry.specs.declared.EdgeTest.the-variants.{Inside, Outside, Next}
-use Rattle.geometry.specs.Polygon.{edgeTestOf, answerOf, edgesFrom, pointInPolygon}
+use Rattle.geometry.specs.Polygon.{edgeTestOf, edgeAnswer, edgesFrom, pointInPolygon}
 use Rattle.ship.specs.Model.{Deck, pointOf, cornersOf, polygonPoints}
 use Rattle.search.specs.OnDeck.{passesAt}
 use Rattle.search.proofs.Corners.{made-more, made-none}
@@ -24,7 +24,7 @@ module _ {deck : Deck} {k count : ℕ} {p first : Vec2} where
 
   module _ {a : Vec2} {j : ℕ} {t : EdgeTest} (l : EdgesLeft deck k count p first a j) where
     module _ {b : Vec2} (h : j < count) (read : b ≡ pointOf deck (getD (cornersOf deck k) j 0)) (test : t ≡ edgeTestOf p a b) where
-      edge : passesAt deck p k ≡ answerOf t (edgesFrom p first b (drop (j + 1) (polygonPoints deck k)))
+      edge : passesAt deck p k ≡ edgeAnswer t (edgesFrom p first b (drop (j + 1) (polygonPoints deck k)))
       unfolding edgesFrom polygonPoints
       edge = l .same ∙ rw (made-more (pointOf deck) (cornersOf deck k) (l .counts) h, test, read)
 
@@ -39,7 +39,7 @@ module _ {deck : Deck} {k count : ℕ} {p first : Vec2} where
 
     -- the edge from the last vertex to the first
     module _ (h : count ≤ j) (test : t ≡ edgeTestOf p a first) where
-      last : passesAt deck p k ≡ answerOf t true
+      last : passesAt deck p k ≡ edgeAnswer t true
       unfolding edgesFrom polygonPoints
       last = l .same ∙ rw (made-none (pointOf deck) (cornersOf deck k) (l .counts) h, test)
 

@@ -7,13 +7,13 @@ ghost use Rattle.ring.specs.Table.{directions};
 ghost use Rattle.ship.specs.Decode.{deckAt};
 ghost use Rattle.ship.specs.Model.{pointOf, heightOf, cornersOf, polygonCorners};
 ghost use Rattle.ship.specs.Questions.{DeckOfPassed};
-ghost use Rattle.search.specs.OnDeck.{passesAt, deckTurn, heightOn};
+ghost use Rattle.search.specs.OnDeck.{passesAt, deckTurn, nextHit, heightOn};
 use geometry::EdgeTest;
 use geometry::Height;
 use geometry::HeightSum;
 use geometry::Vec2;
+use hits::Hit;
 use ship::Blocks;
-use survey::Hit;
 
 // The coordinates of polygon k's vertex j.
 fn corner_point(file: &[u8], b: Blocks, k: usize, j: usize) -> Vec2
@@ -80,6 +80,22 @@ pub fn first_hit(file: &[u8], b: Blocks, t: &[i32; 2432], p: Vec2, reach: f32, s
         }
     };
     hit
+}
+
+// The first polygon from number k on that passes at q, which is sample i.
+pub fn next_hit(file: &[u8], b: Blocks, q: Vec2, i: usize, k: usize) -> Hit
+    requires { ⌜ DeckOfPassed (now file) b ⌝ }
+    ensures { λ r. ⌜ r ≡ nextHit (deckAt (now (file .entry)) b) q i k ⌝ }
+{
+    let polygons = b.polygons;
+    let mut j = k;
+    'polygons: while j < polygons {
+        if point_in_polygon(file, b, j, q) {
+            return Hit::At(i, j);
+        }
+        j += 1;
+    }
+    Hit::Missed
 }
 
 // The mean of the heights of polygon k's vertices.

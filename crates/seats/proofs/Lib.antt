@@ -1,6 +1,7 @@
-pub mod SeatFacts
-pub mod RecordsBack
+pub mod SeatReads
+pub mod SeatAsks
+pub mod SeatSurveys
+pub mod RunRecords
 pub mod SurveyTheorem
-pub mod Examples
-pub mod Ways
+pub mod RunLoop
 pub mod Codes

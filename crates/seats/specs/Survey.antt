@@ -1,21 +1,22 @@
 -- The surveyor's statement, of bytes: what holds of every seat run that is not refused.
-use Prim.Native.Nat.{ℕ, _+_, _*_, _≤_, _<_}
+use Prim.Native.Nat.{ℕ, _≤_, _<_}
 use mathlib.Core.Path.{_≡_}
 use mathlib.Core.List.{List, [], _∷_}
-use lib.ListN.{length, take, drop}
-use Rattle.words.specs.Bytes.{u32At}
-use Rattle.words.specs.Rows.{rows}
+use lib.ListN.{length}
+use Rattle.words.specs.Bytes.{allOnes}
+use Rattle.answers.specs.declared.Answer.{Answer}
+use Rattle.answers.specs.declared.Answer.the-variants.{Refused, Wrote}
+use Rattle.answers.specs.Replies.{answerTo, outputTo}
+use Rattle.records.specs.declared.SeatRecord.{SeatRecord}
+use Rattle.records.specs.Record.{recordAt, recordsIn, recordSlice}
 use Rattle.ship.specs.Model.{Ship}
 use Rattle.ship.specs.Blocks.{stepsIn}
 use Rattle.ship.specs.Decode.{decode, withStepsBytes}
-use Rattle.survey.specs.Record.{SeatRecord, allOnes}
+use Rattle.survey.specs.declared.Seat.{Seat}
 use Rattle.survey.specs.Survey.{SeatSurvey}
-use Rattle.placing.specs.declared.Seat.{Seat}
-use Rattle.placing.specs.Sees.{view}
-use Rattle.calls.specs.declared.Answer.{Answer}
-use Rattle.calls.specs.declared.Answer.the-variants.{Refused, Wrote}
+use Rattle.walking.specs.Sees.{view}
 use Rattle.seats.specs.SeatFile.{seatsOf}
-use Rattle.seats.specs.Run.{runAnswer, runOutput}
+use Rattle.seats.specs.Run.{runReply}
 
 -- R holds of the two lists' elements, one by one, and the lists are equally long
 abbrev pub Each : {A B : Type 0} → (A → B → Type 0) → List A → List B → Type 0
@@ -28,29 +29,7 @@ Each R (a ∷ l) (b ∷ bs) = R a b × Each R l bs
 abbrev pub Survey : Ship → List ℕ → List Seat → List SeatRecord → Type 0
 Survey ship blocked seats records = Each (λ seat r. SeatSurvey (view ship blocked seat) (ship .steps) r) seats records
 
--- the n records that stand in the output
-abbrev pub recordAt : List ℕ → ℕ → SeatRecord
-recordAt out i =
-    record {
-      polygon = u32At out (36 * i);
-      x = u32At out (36 * i + 4);
-      y = u32At out (36 * i + 8);
-      kind = u32At out (36 * i + 12);
-      height = u32At out (36 * i + 16);
-      step = u32At out (36 * i + 20);
-      sample = u32At out (36 * i + 24);
-      tried = u32At out (36 * i + 28);
-      candidates = u32At out (36 * i + 32);
-    }
-
-abbrev pub recordsIn : List ℕ → ℕ → List SeatRecord
-recordsIn out n = rows (recordAt out) 0 n
-
--- the 36 bytes of record i
-abbrev pub recordSlice : List ℕ → ℕ → List ℕ
-recordSlice out i = take 36 (drop (36 * i) out)
-
--- every seat placed in the one output has the same 36 bytes in the other
+-- every seat placed in the one output has the same bytes in the other
 abbrev pub Kept : ℕ → List ℕ → List ℕ → Type 0
 Kept n out out′ = (i : ℕ) → i < n → (recordAt out i .polygon ≡ allOnes → ⊥) → recordSlice out′ i ≡ recordSlice out i
 
@@ -60,4 +39,8 @@ Surveyed file blocked seats (Refused number) out = Unit {0}
 Surveyed file blocked seats (Wrote n) out =
     Survey (decode file) blocked (seatsOf seats) (recordsIn out n)
     × ((S : ℕ) → stepsIn file ≤ S → S ≤ 16 → (out′ : List ℕ) → length out ≤ length out′
-    → (runAnswer (withStepsBytes file S) blocked seats out′ ≡ Wrote n) × Kept n out (runOutput (withStepsBytes file S) blocked seats out′))
+    → (answerTo (runReply (withStepsBytes file S) blocked seats) out′ ≡ Wrote n) × Kept n out (outputTo (runReply (withStepsBytes file S) blocked seats) out′))
+
+-- the same of a run over C, whose answer is a number
+abbrev pub SurveyedCode : List ℕ → List ℕ → List ℕ → List ℕ → List ℕ → Type 0
+SurveyedCode file blocked seats out out′ = Surveyed file blocked seats (answerTo (runReply file blocked seats) out) out′

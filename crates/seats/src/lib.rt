@@ -1,40 +1,52 @@
 // The seat run (document 01, section 7), and every function that is exported to C.
 ghost use mathlib.Core.Path.{_≡_};
-ghost use mathlib.Core.Bool.{true};
-ghost use mathlib.Core.List.{_++_};
+ghost use mathlib.Core.Bool.{true, not};
 ghost use Prim.Native.Nat.{_+_, _*_, _≤_};
-ghost use lib.ListN.{length, drop};
+ghost use lib.Dec.{T};
+ghost use lib.ListN.{length};
+ghost use lib.Ieee.{binary32, nanBits};
 ghost use Rattle.geometry.specs.Bounds.{PointWithin};
-ghost use Rattle.ring.specs.Table.{directions};
-ghost use Rattle.ship.specs.Decode.{decode};
-ghost use Rattle.ship.specs.declared.FileCheck.the-variants.{Passed};
-ghost use Rattle.calls.specs.Answers.{codeOf, AnswerFits};
-ghost use Rattle.calls.specs.Closest.{pointOfParts, closestPoints, closestPoint, closestAnswer, closestOutput};
-ghost use Rattle.calls.specs.HeightCall.{heightAnswer, heightOutput};
-ghost use Rattle.seats.specs.SeatFile.{seatAt, seatCount, seatsOf, kindAllowed, question16Seat, seatCheck, seatsCheck};
-ghost use Rattle.seats.specs.Run.{runCheck, runAnswer, runOutput, seatRun, recordsBytes};
-ghost use Rattle.seats.specs.Survey.{Surveyed};
-use calls::Answer;
+ghost use Rattle.answers.specs.Checks.{checkEach};
+ghost use Rattle.calls.specs.Closest.{PointsCode, PointCode};
+ghost use Rattle.calls.specs.HeightCall.{HeightCode};
+ghost use Rattle.seats.specs.SeatFile.{seatSize, seatWord, seatFloat, seatAt, seatCount, kindAllowed, question16Seat, seatCheck};
+ghost use Rattle.seats.specs.Run.{runCheck, RunReplied, RunCode, RecordsReady, RecordsPut};
+ghost use Rattle.seats.specs.Survey.{Surveyed, SurveyedCode};
+use answers::Answer;
+use answers::Check;
 use geometry::Vec2;
-use placing::Seat;
-use ship::FileCheck;
+use records::RECORD_SIZE;
+use survey::Seat;
 use survey::Wish;
-use words::f32_at;
-use words::size_at;
-use words::u32_at;
+
+pub const SEAT_SIZE: usize = 20;
+
+// Number k of seat i.
+fn seat_word(seats: &[u8], i: usize, k: usize) -> u32
+    requires { ⌜ seatSize * i + 4 * k + 4 ≤ length (now seats) ⌝ }
+    ensures { λ r. ⌜ r ≡ seatWord (now (seats .entry)) i k ⌝ }
+{
+    words::u32_at(seats, SEAT_SIZE * i + 4 * k)
+}
+
+fn seat_float(seats: &[u8], i: usize, k: usize) -> f32
+    requires { ⌜ (seatSize * i + 4 * k + 4 ≤ length (now seats)) × T (not (nanBits binary32 (seatWord (now seats) i k))) ⌝ }
+    ensures { λ r. ⌜ r ≡ seatFloat (now (seats .entry)) i k ⌝ }
+{
+    words::f32_at(seats, SEAT_SIZE * i + 4 * k)
+}
 
 // Seat i of the list.
 fn seat_at(seats: &[u8], i: usize) -> Seat
-    requires { ⌜ (20 * i + 20 ≤ length (now seats)) × (question16Seat (now seats) i ≡ true) ⌝ }
+    requires { ⌜ (seatSize * i + seatSize ≤ length (now seats)) × (question16Seat (now seats) i ≡ true) ⌝ }
     ensures { λ r. ⌜ (r ≡ seatAt (now (seats .entry)) i) × PointWithin 1000000 (r .place) ⌝ }
 {
-    let at = 20 * i;
     let place = Vec2 {
-        x: f32_at(seats, at),
-        y: f32_at(seats, at + 4),
+        x: seat_float(seats, i, 0),
+        y: seat_float(seats, i, 1),
     };
-    let choice = placing::choice_of(u32_at(seats, at + 8));
-    if u32_at(seats, at + 12) == 0 {
+    let choice = survey::choice_of(seat_word(seats, i, 2));
+    if seat_word(seats, i, 3) == 0 {
         Seat {
             place,
             choice,
@@ -44,7 +56,7 @@ fn seat_at(seats: &[u8], i: usize) -> Seat
         Seat {
             place,
             choice,
-            wish: Wish::Wished(f32_at(seats, at + 16)),
+            wish: Wish::Wished(seat_float(seats, i, 4)),
         }
     }
 }
@@ -56,118 +68,114 @@ fn kind_allowed(kind: u32, height: u32) -> bool
     if kind == 0 { height == 0 } else { kind == 1 }
 }
 
+// Question 16 of seat i.
+fn floats_in_size(seats: &[u8], i: usize) -> bool
+    requires { ⌜ seatSize * i + seatSize ≤ length (now seats) ⌝ }
+    ensures { λ r. ⌜ r ≡ question16Seat (now (seats .entry)) i ⌝ }
+{
+    if !ship::in_size(seat_word(seats, i, 0)) {
+        return false;
+    }
+    if !ship::in_size(seat_word(seats, i, 1)) {
+        return false;
+    }
+    ship::in_size(seat_word(seats, i, 4))
+}
+
 // Questions 15 to 17 of seat i.
-fn seat_check(seats: &[u8], decks: usize, i: usize) -> FileCheck
-    requires { ⌜ 20 * i + 20 ≤ length (now seats) ⌝ }
+fn seat_check(seats: &[u8], decks: usize, i: usize) -> Check
+    requires { ⌜ seatSize * i + seatSize ≤ length (now seats) ⌝ }
     ensures { λ r. ⌜ r ≡ seatCheck (now (seats .entry)) decks i ⌝ }
 {
-    let at = 20 * i;
-    if !kind_allowed(u32_at(seats, at + 12), u32_at(seats, at + 16)) {
-        return FileCheck::No(15);
+    if !kind_allowed(seat_word(seats, i, 3), seat_word(seats, i, 4)) {
+        return Check::No(15);
     }
-    if !ship::in_size(u32_at(seats, at)) {
-        return FileCheck::No(16);
+    if !floats_in_size(seats, i) {
+        return Check::No(16);
     }
-    if !ship::in_size(u32_at(seats, at + 4)) {
-        return FileCheck::No(16);
+    if !answers::deck_there(decks, seat_word(seats, i, 2)) {
+        return Check::No(17);
     }
-    if !ship::in_size(u32_at(seats, at + 16)) {
-        return FileCheck::No(16);
-    }
-    if !calls::deck_there(decks, u32_at(seats, at + 8)) {
-        return FileCheck::No(17);
-    }
-    FileCheck::Passed
+    Check::Passed
 }
 
 // Seat by seat.
-fn seats_check(seats: &[u8], decks: usize) -> FileCheck
-    ensures { λ r. ⌜ r ≡ seatsCheck (now (seats .entry)) decks 0 (seatCount (now (seats .entry))) ⌝ }
+fn seats_check(seats: &[u8], decks: usize) -> Check
+    ensures { λ r. ⌜ r ≡ checkEach (seatCheck (now (seats .entry)) decks) 0 (seatCount (now (seats .entry))) ⌝ }
 {
-    let count = seats.len() / 20;
+    let count = seats.len() / SEAT_SIZE;
     let mut i: usize = 0;
     'seats: while i < count {
         match seat_check(seats, decks, i) {
-            FileCheck::No(number) => return FileCheck::No(number),
-            FileCheck::Passed => {}
+            Check::No(number) => return Check::No(number),
+            Check::Passed => {}
         }
         i += 1;
     }
-    FileCheck::Passed
+    Check::Passed
 }
 
-// All questions of the run, with room bytes of output.
-fn run_check(file: &[u8], blocked: &[u8], seats: &[u8], room: usize) -> FileCheck
-    ensures { λ r. ⌜ r ≡ runCheck (now (file .entry)) (now (blocked .entry)) (now (seats .entry)) room ⌝ }
+// Questions 1 to 17 of the run.
+fn run_check(file: &[u8], blocked: &[u8], seats: &[u8]) -> Check
+    ensures { λ r. ⌜ r ≡ runCheck (now (file .entry)) (now (blocked .entry)) (now (seats .entry)) ⌝ }
 {
     match ship::first_no(file) {
-        FileCheck::No(number) => return FileCheck::No(number),
-        FileCheck::Passed => {}
+        Check::No(number) => return Check::No(number),
+        Check::Passed => {}
     }
-    if blocked.len() != 32 {
-        return FileCheck::No(14);
+    if !answers::blocked_whole(blocked) {
+        return Check::No(14);
     }
-    if seats.len() % 20 != 0 {
-        return FileCheck::No(14);
+    if seats.len() % SEAT_SIZE != 0 {
+        return Check::No(14);
     }
-    match seats_check(seats, decks::deck_count(file)) {
-        FileCheck::No(number) => return FileCheck::No(number),
-        FileCheck::Passed => {}
-    }
-    if room / 36 < seats.len() / 20 {
-        return FileCheck::No(20);
-    }
-    FileCheck::Passed
+    seats_check(seats, decks::deck_count(file))
 }
 
 // One record a seat, in list order.
 fn put_records(file: &[u8], blocked: &[u8], table: &[i32; 2432], seats: &[u8], out: &mut [u8])
-    requires { ⌜ (runCheck (now file) (now blocked) (now seats) (length (now out)) ≡ Passed) × (now table ≡ directions) ⌝ }
-    ensures { λ r. ⌜ now (out .exit) ≡ recordsBytes (seatRun (decode (now (file .entry))) (now (blocked .entry)) (seatsOf (now (seats .entry)))) ++ drop (36 * seatCount (now (seats .entry))) (now (out .entry)) ⌝ }
+    requires { ⌜ RecordsReady (now file) (now blocked) (now table) (now seats) (now out) ⌝ }
+    ensures { λ _. ⌜ RecordsPut (now (file .entry)) (now (blocked .entry)) (now (seats .entry))
+        (now (out .entry)) (now (out .exit)) ⌝ }
 {
-    let count = seats.len() / 20;
+    let count = seats.len() / SEAT_SIZE;
     let mut i: usize = 0;
     'seats: while i < count {
-        let placement = placing::place_seat(file, blocked, table, seat_at(seats, i));
-        let words = placing::record_words(placement);
-        words::put_words(out, 36 * i, &words);
+        let seat = i;
         i += 1;
+        let record = placing::place_seat(file, blocked, table, seat_at(seats, seat));
+        records::put_record(out, seat, record);
     }
 }
 
 // The seat run. The surveyor's statement holds of every run that is not refused.
 pub fn run(file: &[u8], blocked: &[u8], seats: &[u8], out: &mut [u8]) -> Answer
-    ensures answer { λ r. ⌜ r ≡ runAnswer (now (file .entry)) (now (blocked .entry)) (now (seats .entry)) (now (out .entry)) ⌝ }
-    ensures output { λ r. ⌜ now (out .exit) ≡ runOutput (now (file .entry)) (now (blocked .entry)) (now (seats .entry)) (now (out .entry)) ⌝ }
+    ensures replied { λ r. ⌜ RunReplied (now (file .entry)) (now (blocked .entry)) (now (seats .entry))
+        (now (out .entry)) (now (out .exit)) r ⌝ }
     ensures surveyed { λ r. ⌜ Surveyed (now (file .entry)) (now (blocked .entry)) (now (seats .entry)) r (now (out .exit)) ⌝ }
 {
-    match run_check(file, blocked, seats, out.len()) {
-        FileCheck::No(number) => return Answer::Refused(number),
-        FileCheck::Passed => {}
+    match run_check(file, blocked, seats) {
+        Check::No(number) => return Answer::Refused(number),
+        Check::Passed => {}
+    }
+    let count = seats.len() / SEAT_SIZE;
+    if !answers::room_for(RECORD_SIZE, count, out.len()) {
+        return Answer::Refused(20);
     }
     let table = ring::all_directions();
     put_records(file, blocked, &table, seats, out);
-    Answer::Wrote(seats.len() / 20)
+    Answer::Wrote(count)
 }
 
 // ---- the C interface: the count of entries, or minus the question's number
-fn code(a: Answer) -> i64
-    requires { ⌜ AnswerFits a ⌝ }
-    ensures { λ r. ⌜ r ≡ codeOf a ⌝ }
-{
-    match a {
-        Answer::Wrote(count) => count as i64,
-        Answer::Refused(number) => -(number as i64),
-    }
-}
-
 #[no_mangle]
 pub extern "C" fn seats_run(file: &[u8], blocked: &[u8], seats: &[u8], out: &mut [u8]) -> i64
-    ensures answer { λ r. ⌜ r ≡ codeOf (runAnswer (now (file .entry)) (now (blocked .entry)) (now (seats .entry)) (now (out .entry))) ⌝ }
-    ensures output { λ r. ⌜ now (out .exit) ≡ runOutput (now (file .entry)) (now (blocked .entry)) (now (seats .entry)) (now (out .entry)) ⌝ }
-    ensures surveyed { λ r. ⌜ Surveyed (now (file .entry)) (now (blocked .entry)) (now (seats .entry)) (runAnswer (now (file .entry)) (now (blocked .entry)) (now (seats .entry)) (now (out .entry))) (now (out .exit)) ⌝ }
+    ensures replied { λ r. ⌜ RunCode (now (file .entry)) (now (blocked .entry)) (now (seats .entry))
+        (now (out .entry)) (now (out .exit)) r ⌝ }
+    ensures surveyed { λ _. ⌜ SurveyedCode (now (file .entry)) (now (blocked .entry)) (now (seats .entry))
+        (now (out .entry)) (now (out .exit)) ⌝ }
 {
-    code(run(file, blocked, seats, out))
+    answers::code(run(file, blocked, seats, out))
 }
 
 #[no_mangle]
@@ -179,10 +187,9 @@ pub extern "C" fn seats_closest_points(
     blocked: &[u8],
     out: &mut [u8],
 ) -> i64
-    ensures answer { λ r. ⌜ r ≡ codeOf (closestAnswer (now (file .entry)) (pointOfParts x y) deck (now (blocked .entry)) (closestPoints (now (file .entry)) (pointOfParts x y) deck (now (blocked .entry))) (now (out .entry))) ⌝ }
-    ensures output { λ r. ⌜ now (out .exit) ≡ closestOutput (now (file .entry)) (pointOfParts x y) deck (now (blocked .entry)) (closestPoints (now (file .entry)) (pointOfParts x y) deck (now (blocked .entry))) (now (out .entry)) ⌝ }
+    ensures { λ r. ⌜ PointsCode (now (file .entry)) x y deck (now (blocked .entry)) (now (out .entry)) (now (out .exit)) r ⌝ }
 {
-    code(calls::get_closest_points_on_layers(file, Vec2 { x, y }, deck, blocked, out))
+    answers::code(calls::get_closest_points_on_layers(file, Vec2 { x, y }, deck, blocked, out))
 }
 
 #[no_mangle]
@@ -194,16 +201,14 @@ pub extern "C" fn seats_closest_point(
     blocked: &[u8],
     out: &mut [u8],
 ) -> i64
-    ensures answer { λ r. ⌜ r ≡ codeOf (closestAnswer (now (file .entry)) (pointOfParts x y) deck (now (blocked .entry)) (closestPoint (now (file .entry)) (pointOfParts x y) deck (now (blocked .entry))) (now (out .entry))) ⌝ }
-    ensures output { λ r. ⌜ now (out .exit) ≡ closestOutput (now (file .entry)) (pointOfParts x y) deck (now (blocked .entry)) (closestPoint (now (file .entry)) (pointOfParts x y) deck (now (blocked .entry))) (now (out .entry)) ⌝ }
+    ensures { λ r. ⌜ PointCode (now (file .entry)) x y deck (now (blocked .entry)) (now (out .entry)) (now (out .exit)) r ⌝ }
 {
-    code(calls::get_closest_point_on_layers(file, Vec2 { x, y }, deck, blocked, out))
+    answers::code(calls::get_closest_point_on_layers(file, Vec2 { x, y }, deck, blocked, out))
 }
 
 #[no_mangle]
 pub extern "C" fn seats_height(file: &[u8], x: f32, y: f32, polygon: u32, out: &mut [u8]) -> i64
-    ensures answer { λ r. ⌜ r ≡ codeOf (heightAnswer (now (file .entry)) (pointOfParts x y) polygon (now (out .entry))) ⌝ }
-    ensures output { λ r. ⌜ now (out .exit) ≡ heightOutput (now (file .entry)) (pointOfParts x y) polygon (now (out .entry)) ⌝ }
+    ensures { λ r. ⌜ HeightCode (now (file .entry)) x y polygon (now (out .entry)) (now (out .exit)) r ⌝ }
 {
-    code(calls::height(file, Vec2 { x, y }, polygon, out))
+    answers::code(calls::height(file, Vec2 { x, y }, polygon, out))
 }

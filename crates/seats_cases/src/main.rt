@@ -4,8 +4,8 @@
 //   P, the closest points, and Q, the closest point: file length, blocked length, x, y, deck, output length
 //   H, the height: file length, x, y, packed polygon, output length
 // The answer is a line: `wrote` or `refused`, the number, and `kept` if the output past the answer (all of it for a refusal) is as it
-// was filled before the call, else `altered`. A line for each entry follows, its words in hexadecimal. What is no case gives the one
-// word `bad`, and nothing after it is read.
+// was filled before the call, else `altered`. A line for each entry follows: each word a space and 8 hexadecimal digits, lower case.
+// What is no case gives the one word `bad`, and nothing after it is read.
 ghost use Prim.Native.Nat.{_+_, _<_, _≤_};
 ghost use lib.ListN.{length};
 use calls::Answer;
@@ -24,18 +24,9 @@ fn print(text: &[u8]) {
     io::write_all(STDOUT_FILENO, text);
 }
 
-// A space and the 8 digits of n.
 fn print_word(n: u32) {
-    let mut text = [b' '; 9];
-    let mut rest = n;
-    let mut k: usize = 8;
-    while k > 0 {
-        let d = (rest % 16) as u8;
-        text[k] = if d < 10 { 48 + d } else { 55 + d };
-        rest = rest / 16;
-        k -= 1;
-    }
-    print(&text);
+    print(b" ");
+    io::print_hex(STDOUT_FILENO, n as u64, 8);
 }
 
 fn print_entry(entry: &[u8]) {

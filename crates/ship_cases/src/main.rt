@@ -1,18 +1,18 @@
 // Runs the cases of tools/ship_cases.py. The input is cases, one after the other: a length (u32, little-endian), then a ship file of
 // that many bytes. The answer is a line: `passed`, or `no` and the number of the first question that the file does not pass. A length
 // that runs past the input gives the one word `bad`, and nothing after it is read.
+use answers::Check;
 use libc::STDIN_FILENO;
 use libc::STDOUT_FILENO;
-use ship::FileCheck;
 
 fn print(text: &[u8]) {
     io::write_all(STDOUT_FILENO, text);
 }
 
-fn print_answer(answer: FileCheck) {
+fn print_answer(answer: Check) {
     match answer {
-        FileCheck::Passed => print(b"passed\n"),
-        FileCheck::No(number) => {
+        Check::Passed => print(b"passed\n"),
+        Check::No(number) => {
             print(b"no ");
             io::print_decimal(STDOUT_FILENO, number as u64);
             print(b"\n");

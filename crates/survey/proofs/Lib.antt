@@ -1,7 +1,7 @@
-pub mod Members
-pub mod Preference
 pub mod Steps
+pub mod Preference
 pub mod SurveyHolds
 pub mod SurveyUnique
 pub mod Loops
-pub mod Ways
+pub mod Recorded
+pub mod SeatAsks

@@ -15,14 +15,14 @@ use Rattle.geometry.specs.declared.Height.{Height}
 use Rattle.geometry.specs.declared.Height.the-variants.{Known, None}
 use Rattle.geometry.specs.Plane.{absOf}
 use Rattle.geometry.proofs.Magnitude.{magnitude, abs-below, abs-above}
-use Rattle.survey.specs.declared.Candidate.{Candidate}
+use Rattle.hits.specs.declared.Candidate.{Candidate}
 use Rattle.survey.specs.declared.Wish.{Wish}
 use Rattle.survey.specs.declared.Wish.the-variants.{NoWish, Wished}
 use Rattle.survey.specs.Wishes.{gapOf, nearer}
 use Rattle.survey.specs.View.{View}
 use Rattle.survey.specs.Search.{better, bestOf}
 use Rattle.survey.specs.Survey.{IsCandidate, Earlier, Nearer, Prefers}
-use Rattle.survey.proofs.Members.{In, Rising, holds}
+use Rattle.words.proofs.Collecting.{In, Rising, holds}
 
 -- the distance from a wish to a height is a number
 abbrev pub MeasuredFrom : Wish → Height → Type 0
@@ -31,7 +31,7 @@ MeasuredFrom (Wished w) None = Unit {0}
 MeasuredFrom (Wished w) (Known h) = T (not (isNan (gapOf h w)))
 
 abbrev pub MeasuredHeight : View → Candidate → Type 0
-MeasuredHeight v c = MeasuredFrom (v .wish) (v .height c)
+MeasuredHeight v c = MeasuredFrom (v .wish) (v .shown .height c)
 
 -- of every candidate of a step below S
 abbrev pub MeasuredBelow : View → ℕ → Type 0
@@ -108,11 +108,11 @@ module _ (v : View) where
 
   -- ---- the seat's preference
   weak : (a b c : Candidate) → MeasuredHeight v b → T (not (Nearer v a b)) → T (not (Nearer v b c)) → T (not (Nearer v a c))
-  weak a b c = nearer-weak (v .wish) (v .height a) (v .height b) (v .height c)
+  weak a b c = nearer-weak (v .wish) (v .shown .height a) (v .shown .height b) (v .shown .height c)
 
   -- what is preferred is not farther
   not-farther : (a b : Candidate) → Prefers v a b → T (not (Nearer v b a))
-  not-farther a b (inl p) = not-T (Nearer v b a) (nearer-asym (v .wish) (v .height a) (v .height b) p)
+  not-farther a b (inl p) = not-T (Nearer v b a) (nearer-asym (v .wish) (v .shown .height a) (v .shown .height b) p)
   not-farther a b (inr p) = p .0
 
   prefers-trans : (a b c : Candidate) → MeasuredHeight v a → MeasuredHeight v b → MeasuredHeight v c → Prefers v a b → Prefers v b c → Prefers v a c
@@ -135,7 +135,7 @@ module _ (v : View) where
   prefers-asym a b ma mb p q = go (prefers-trans a b a ma mb ma p q)
     where
       go : Prefers v a a → ⊥
-      go (inl t) = nearer-asym (v .wish) (v .height a) (v .height a) t t
+      go (inl t) = nearer-asym (v .wish) (v .shown .height a) (v .shown .height a) t t
       go (inr r) = ⊎-elim (λ l. omega arith) (λ l. omega arith) (r .1)
 
   -- ---- the scan

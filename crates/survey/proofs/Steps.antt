@@ -9,14 +9,16 @@ use native.Mathlib.Omega.{arith}
 use native.Mathlib.Nat.{mul-add, mul-le-mul-left, mul-zero}
 use lib.Dec.{T}
 use lib.ListN.{length}
-use Rattle.survey.specs.declared.Candidate.{Candidate}
-use Rattle.survey.specs.declared.Hit.{Hit}
-use Rattle.survey.specs.declared.Hit.the-variants.{At, Missed}
-use Rattle.survey.specs.View.{View, candidate}
-use Rattle.survey.specs.Search.{orElse, polygonHit, sampleHit, triedOf, turn, passing, given, candidatesFrom, candidates, triedFrom, triedIn, triedBefore, Found, Nowhere, InStep, stepOr, firstStep}
-use Rattle.survey.specs.Record.{allOnes, recordOf, seatRecord}
+use Rattle.hits.specs.declared.Candidate.{Candidate}
+use Rattle.hits.specs.declared.Hit.{Hit}
+use Rattle.hits.specs.declared.Hit.the-variants.{At, Missed}
+use Rattle.hits.specs.Candidates.{candidate}
+use Rattle.survey.specs.View.{View}
+use Rattle.hits.specs.Hits.{orElse, polygonHit, sampleHit, triedOf}
+use Rattle.survey.specs.Search.{passesOn, turn, passing, given, turnGives, turnTried, candidates, triedIn, triedBefore, Found, Nowhere, InStep, stepOr, firstStep, recordOf, seatRecord}
+use Rattle.words.specs.Bytes.{allOnes}
 use Rattle.survey.specs.Survey.{Open, Passes, NoHitOn, FirstHit, IsCandidate, Earlier, openDecks, overOpen, samplesBelow, TriedOn, CandidatesOn}
-use Rattle.survey.proofs.Members.{three, from-next, holds, not-holds, In, Rising, collect, of-collect, in-collect, collect-rises, sumFrom, length-collect, sum-all, sum-same, sum-equal}
+use Rattle.words.proofs.Collecting.{three, from-next, holds, not-holds, In, Rising, of-collect, in-collect, collect-rises, length-collect, sum-same, sum-equal}
 
 -- ---- the first polygon that passes, and the first sample that hits
 module _ (passes : ℕ → ℕ → Bool) where
@@ -71,24 +73,21 @@ ring-next s = omega (arith, at-most-square s)
 
 module _ (v : View) where
   -- ---- a deck's turn
-  abbrev pub passesAt : ℕ → ℕ → ℕ → ℕ → Bool
-  passesAt s d i k = v .passes (candidate s d i k)
-
   -- its first sample that hits, and the first polygon that passes there
   pub record HitIs (s d i k : ℕ) : Type 0 where
     pub first-hit : FirstHit v s d i
     pub passes : Passes v (candidate s d i k)
-    pub none-before : (j : ℕ) → j < k → T (passesAt s d i j) → ⊥
+    pub none-before : (j : ℕ) → j < k → T (passesOn (v .shown) s d i j) → ⊥
 
   abbrev pub TurnIs : ℕ → ℕ → Hit → Type 0
   TurnIs s d Missed = NoHitOn v s d
   TurnIs s d (At i k) = HitIs s d i k
 
-  pub turn-is : (s d : ℕ) → TurnIs s d (turn v s d)
+  pub turn-is : (s d : ℕ) → TurnIs s d (turn (v .shown) s d)
   unfolding turn
-  turn-is s d = go (turn v s d) (sample-is (passesAt s d) (v .polygons d) 0 (10 * s + 1))
+  turn-is s d = go (turn (v .shown) s d) (sample-is (passesOn (v .shown) s d) (v .shown .polygons d) 0 (10 * s + 1))
     where
-      go : (t : Hit) → SampleIs (passesAt s d) (v .polygons d) 0 (10 * s + 1) t → TurnIs s d t
+      go : (t : Hit) → SampleIs (passesOn (v .shown) s d) (v .shown .polygons d) 0 (10 * s + 1) t → TurnIs s d t
       go Missed h = λ i l k q. h i (omega arith) (omega arith) k (q .0) (q .1)
       go (At i k) h =
           record {
@@ -109,107 +108,84 @@ module _ (v : View) where
       (three i j)
 
   -- ---- what a turn gives
-  abbrev pub alone : ℕ → ℕ → ℕ → ℕ → List Candidate
+  abbrev alone : ℕ → ℕ → ℕ → ℕ → List Candidate
   alone s d i k = candidate s d i k ∷ []
 
-  pub passing-is : (s d i k n : ℕ) → passing v s d i k n ≡ collect (passesAt s d i) (alone s d i) k n
-  unfolding passing collect
-  passing-is s d i k zero = refl
-  passing-is s d i k (suc n) =
-      ap (λ (l : List Candidate). cond (passesAt s d i k) (candidate s d i k ∷ l) l) (passing-is s d i (k + 1) n)
-
-  of-given : (s d : ℕ) (t : Hit) (c : Candidate) → TurnIs s d t → In c (given v s d t) → (c .deck ≡ d) × (Open v d → IsCandidate v s c)
+  of-given : (s d : ℕ) (t : Hit) (c : Candidate) → TurnIs s d t → In c (given (v .shown) s d t) → (c .deck ≡ d) × (Open v d → IsCandidate v s c)
   of-given s d Missed c h m = absurd m
   of-given s d (At i k) c h m =
-      go (of-collect (passesAt s d i) (alone s d i) 0 (v .polygons d) c (subst (In c) (passing-is s d i 0 (v .polygons d)) m))
+      go (of-collect (passesOn (v .shown) s d i) (alone s d i) 0 (v .shown .polygons d) c m)
     where
-      go : (j : ℕ) × (0 ≤ j) × (j < 0 + v .polygons d) × T (passesAt s d i j) × In c (alone s d i j)
+      go : (j : ℕ) × (0 ≤ j) × (j < 0 + v .shown .polygons d) × T (passesOn (v .shown) s d i j) × In c (alone s d i j)
           → (c .deck ≡ d) × (Open v d → IsCandidate v s c)
       go (j, l, m′, t, inl e) =
           subst (λ (x : Candidate). (x .deck ≡ d) × (Open v d → IsCandidate v s x)) (sym e)
           (refl, λ o. record { of-step = refl; on-open = o; first-hit = h .first-hit; passes = (omega arith, t) })
       go (j, l, m′, t, inr n) = absurd n
 
-  in-given : (s d i k : ℕ) (t : Hit) → TurnIs s d t → FirstHit v s d i → Passes v (candidate s d i k) → In (candidate s d i k) (given v s d t)
+  in-given : (s d i k : ℕ) (t : Hit) → TurnIs s d t → FirstHit v s d i → Passes v (candidate s d i k) → In (candidate s d i k) (given (v .shown) s d t)
   in-given s d i k Missed h f p = absurd (h i (f .in-ring) k p)
   in-given s d i k (At j l) h f p =
-      subst (λ (j′ : ℕ). In (candidate s d i k) (passing v s d j′ 0 (v .polygons d))) (same-hit s d i j f (h .first-hit))
-      (subst (In (candidate s d i k)) (sym (passing-is s d i 0 (v .polygons d)))
-      (in-collect (passesAt s d i) (alone s d i) 0 (v .polygons d) k (candidate s d i k) (omega arith) (omega (arith, p .0)) (p .1) (inl refl)))
+      subst (λ (j′ : ℕ). In (candidate s d i k) (passing (v .shown) s d j′ 0 (v .shown .polygons d))) (same-hit s d i j f (h .first-hit))
+      (in-collect (passesOn (v .shown) s d i) (alone s d i) 0 (v .shown .polygons d) k (candidate s d i k) (omega arith) (omega (arith, p .0)) (p .1) (inl refl))
 
-  given-rises : (s d : ℕ) (t : Hit) → Rising (Earlier v) (given v s d t)
+  given-rises : (s d : ℕ) (t : Hit) → Rising (Earlier v) (given (v .shown) s d t)
   given-rises s d Missed = tt
   given-rises s d (At i k) =
-      subst (Rising (Earlier v)) (sym (passing-is s d i 0 (v .polygons d)))
-      (collect-rises (passesAt s d i) (alone s d i) (Earlier v) (λ j. (λ y n. absurd n, tt)) apart 0 (v .polygons d))
+      collect-rises (passesOn (v .shown) s d i) (alone s d i) (Earlier v) (λ j. (λ y n. absurd n, tt)) apart 0 (v .shown .polygons d)
     where
       apart : (j k : ℕ) (x y : Candidate) → j < k → In x (alone s d i j) → In y (alone s d i k) → Earlier v x y
       apart j k x y l (inl e) (inl f) = inr (ap (λ (c : Candidate). c .deck) e ∙ sym (ap (λ (c : Candidate). c .deck) f), omega (arith, ap (λ (c : Candidate). c .polygon) e, ap (λ (c : Candidate). c .polygon) f))
       apart j k x y l (inl e) (inr n) = absurd n
       apart j k x y l (inr n) m = absurd n
 
-  pub tried-is : (s d : ℕ) → TriedOn v s d (triedOf s (turn v s d))
-  tried-is s d = go (turn v s d) (turn-is s d)
+  pub tried-is : (s d : ℕ) → TriedOn v s d (triedOf s (turn (v .shown) s d))
+  tried-is s d = go (turn (v .shown) s d) (turn-is s d)
     where
       go : (t : Hit) → TurnIs s d t → TriedOn v s d (triedOf s t)
       go Missed h = inl (h, omega arith)
       go (At i k) h = inr (i, h .first-hit, omega arith)
 
-  pub count-is : (s d : ℕ) → CandidatesOn v s d (length (given v s d (turn v s d)))
-  count-is s d = go (turn v s d) (turn-is s d)
+  pub count-is : (s d : ℕ) → CandidatesOn v s d (length (given (v .shown) s d (turn (v .shown) s d)))
+  count-is s d = go (turn (v .shown) s d) (turn-is s d)
     where
-      go : (t : Hit) → TurnIs s d t → CandidatesOn v s d (length (given v s d t))
+      go : (t : Hit) → TurnIs s d t → CandidatesOn v s d (length (given (v .shown) s d t))
       go Missed h = inl (h, refl)
       go (At i k) h =
           inr (
             i,
             h .first-hit,
-            ap length (passing-is s d i 0 (v .polygons d))
-                ∙ length-collect (passesAt s d i) (alone s d i) 0 (v .polygons d)
-                ∙ sum-all (passesAt s d i) (λ j. 1) (v .polygons d),
+            length-collect (passesOn (v .shown) s d i) (alone s d i) 0 (v .shown .polygons d),
           )
 
   -- ---- the candidates of a step
-  abbrev pub turnGives : ℕ → ℕ → List Candidate
-  turnGives s d = given v s d (turn v s d)
-
-  pub from-is : (s d n : ℕ) → candidatesFrom v s d n ≡ collect (v .opens) (turnGives s) d n
-  unfolding candidatesFrom collect
-  from-is s d zero = refl
-  from-is s d (suc n) =
-      ap (λ (l : List Candidate). cond (v .opens d) (turnGives s d ++ l) l) (from-is s (d + 1) n)
-
   pub of-candidates : (s : ℕ) (c : Candidate) → In c (candidates v s) → IsCandidate v s c
   of-candidates s c h =
-      let r = of-collect (v .opens) (turnGives s) 0 (v .decks) c (subst (In c) (from-is s 0 (v .decks)) h) in
-      (of-given s (r .0) (turn v s (r .0)) c (turn-is s (r .0)) (r .4)) .1 (omega (arith, r .2), r .3)
+      let r = of-collect (v .opens) (turnGives (v .shown) s) 0 (v .decks) c h in
+      (of-given s (r .0) (turn (v .shown) s (r .0)) c (turn-is s (r .0)) (r .4)) .1 (omega (arith, r .2), r .3)
 
   pub in-candidates : (s : ℕ) (c : Candidate) → IsCandidate v s c → In c (candidates v s)
   in-candidates s c h =
-      subst (In c) (sym (from-is s 0 (v .decks)))
-      (in-collect (v .opens) (turnGives s) 0 (v .decks) (c .deck) c (omega arith) (omega (arith, h .on-open .0)) (h .on-open .1)
-      (subst (λ (t : ℕ). In (candidate t (c .deck) (c .sample) (c .polygon)) (turnGives s (c .deck))) (sym (h .of-step))
-      (in-given s (c .deck) (c .sample) (c .polygon) (turn v s (c .deck)) (turn-is s (c .deck)) (h .first-hit)
-      (subst (λ (t : ℕ). Passes v (candidate t (c .deck) (c .sample) (c .polygon))) (h .of-step) (h .passes)))))
+      in-collect (v .opens) (turnGives (v .shown) s) 0 (v .decks) (c .deck) c (omega arith) (omega (arith, h .on-open .0)) (h .on-open .1)
+      (subst (λ (t : ℕ). In (candidate t (c .deck) (c .sample) (c .polygon)) (turnGives (v .shown) s (c .deck))) (sym (h .of-step))
+      (in-given s (c .deck) (c .sample) (c .polygon) (turn (v .shown) s (c .deck)) (turn-is s (c .deck)) (h .first-hit)
+      (subst (λ (t : ℕ). Passes v (candidate t (c .deck) (c .sample) (c .polygon))) (h .of-step) (h .passes))))
 
   pub candidates-rise : (s : ℕ) → Rising (Earlier v) (candidates v s)
   candidates-rise s =
-      subst (Rising (Earlier v)) (sym (from-is s 0 (v .decks)))
-      (collect-rises (v .opens) (turnGives s) (Earlier v) (λ d. given-rises s d (turn v s d)) apart 0 (v .decks))
+      collect-rises (v .opens) (turnGives (v .shown) s) (Earlier v) (λ d. given-rises s d (turn (v .shown) s d)) apart 0 (v .decks)
     where
-      apart : (j k : ℕ) (x y : Candidate) → j < k → In x (turnGives s j) → In y (turnGives s k) → Earlier v x y
+      apart : (j k : ℕ) (x y : Candidate) → j < k → In x (turnGives (v .shown) s j) → In y (turnGives (v .shown) s k) → Earlier v x y
       apart j k x y l m n =
-          inl (omega (arith, (of-given s j (turn v s j) x (turn-is s j) m) .0, (of-given s k (turn v s k) y (turn-is s k) n) .0))
+          inl (omega (arith, (of-given s j (turn (v .shown) s j) x (turn-is s j) m) .0, (of-given s k (turn (v .shown) s k) y (turn-is s k) n) .0))
 
-  pub how-many : (s : ℕ) → length (candidates v s) ≡ overOpen v (λ d. length (turnGives s d))
+  pub how-many : (s : ℕ) → length (candidates v s) ≡ overOpen v (λ d. length (turnGives (v .shown) s d))
   how-many s =
-      ap length (from-is s 0 (v .decks))
-      ∙ length-collect (v .opens) (turnGives s) 0 (v .decks)
-      ∙ sum-all (v .opens) (λ d. length (turnGives s d)) (v .decks)
+      length-collect (v .opens) (turnGives (v .shown) s) 0 (v .decks)
 
   -- no candidate, no hit
   pub no-hit : (s : ℕ) → candidates v s ≡ [] → (d : ℕ) → Open v d → NoHitOn v s d
-  no-hit s e d o = go (turn v s d) (turn-is s d)
+  no-hit s e d o = go (turn (v .shown) s d) (turn-is s d)
     where
       go : (t : Hit) → TurnIs s d t → NoHitOn v s d
       go Missed h = h
@@ -225,19 +201,10 @@ module _ (v : View) where
       none (c .deck) (h .on-open) (c .sample) (f .in-ring) (f .hits .0) (f .hits .1)
 
   -- ---- the samples tried
-  pub tried-from-is : (s d n : ℕ) → triedFrom v s d n ≡ sumFrom (v .opens) (λ e. triedOf s (turn v s e)) d n
-  unfolding triedFrom sumFrom
-  tried-from-is s d zero = refl
-  tried-from-is s d (suc n) = ap (λ (m : ℕ). cond (v .opens d) (triedOf s (turn v s d) + m) m) (tried-from-is s (d + 1) n)
-
-  pub tried-in-is : (s : ℕ) → triedIn v s ≡ overOpen v (λ d. triedOf s (turn v s d))
-  tried-in-is s = tried-from-is s 0 (v .decks) ∙ sum-all (v .opens) (λ d. triedOf s (turn v s d)) (v .decks)
-
   -- all, in a step with no hit
   all-tried : (s : ℕ) → candidates v s ≡ [] → triedIn v s ≡ openDecks v * (10 * s + 1)
   all-tried s e =
-      tried-in-is s
-      ∙ sum-same (v .opens) (λ d. triedOf s (turn v s d)) (λ d. 10 * s + 1) (v .decks) (λ d l o. go d (turn v s d) (turn-is s d) (no-hit s e d (l, o)))
+      sum-same (v .opens) (turnTried (v .shown) s) (λ d. 10 * s + 1) (v .decks) (λ d l o. go d (turn (v .shown) s d) (turn-is s d) (no-hit s e d (l, o)))
       ∙ sum-equal (v .opens) (10 * s + 1) (v .decks)
     where
       go : (d : ℕ) (t : Hit) → TurnIs s d t → NoHitOn v s d → triedOf s t ≡ 10 * s + 1

@@ -5,20 +5,19 @@ use mathlib.Core.Logic.{_⊎_}
 use mathlib.Core.List.{List, [], _∷_}
 use native.Mathlib.Omega.{arith}
 use lib.ListN.{length}
-use Rattle.survey.specs.declared.Candidate.{Candidate}
+use Rattle.hits.specs.declared.Candidate.{Candidate}
 use Rattle.survey.specs.View.{View}
-use Rattle.survey.specs.Search.{triedOf, turn, candidates, triedIn, triedBefore, bestOf, Found, Nowhere, InStep, firstStep}
-use Rattle.survey.specs.Record.{allOnes, unplacedRecord, placedRecord, recordOf, seatRecord}
+use Rattle.survey.specs.Search.{turnGives, turnTried, candidates, triedIn, triedBefore, bestOf, Found, Nowhere, InStep, firstStep, recordOf, seatRecord}
+use Rattle.words.specs.Bytes.{allOnes}
+use Rattle.records.specs.Record.{unplacedRecord}
+use Rattle.survey.specs.Record.{placedRecord}
 use Rattle.survey.specs.Survey.{NoHit, IsCandidate, Earlier, Prefers, Placed, SeatSurvey}
-use Rattle.survey.proofs.Members.{In, Rising}
+use Rattle.words.proofs.Collecting.{In, Rising}
 use Rattle.survey.proofs.Preference.{MeasuredBelow, IsBest, best-is}
-use Rattle.survey.proofs.Steps.{turnGives, tried-is, count-is, of-candidates, in-candidates, candidates-rise, how-many, no-hit, no-candidate, tried-in-is, tried-before-is, StepIs, first-step-is}
+use Rattle.survey.proofs.Recorded.{not-all-ones}
+use Rattle.survey.proofs.Steps.{tried-is, count-is, of-candidates, in-candidates, candidates-rise, how-many, no-hit, no-candidate, tried-before-is, StepIs, first-step-is}
 
--- a packed polygon of a deck that is there is not all ones
-not-all-ones : (d k n : ℕ) → d < 256 → k < n → n ≤ 16777215 → d * 2 ^ 24 + k ≡ allOnes → ⊥
-not-all-ones d k n h l m e = omega arith
-
-module _ (v : View) (few-decks : v .decks ≤ 256) (few-polygons : (d : ℕ) → v .polygons d ≤ 16777215) (S : ℕ) (measured : MeasuredBelow v S) where
+module _ (v : View) (few-decks : v .decks ≤ 256) (few-polygons : (d : ℕ) → v .shown .polygons d ≤ 16777215) (S : ℕ) (measured : MeasuredBelow v S) where
   -- step t is the first with candidates, c and the rest
   module _ (t : ℕ) (c : Candidate) (rest : List Candidate) (below : t < S) (found : candidates v t ≡ c ∷ rest) (earliest : (u : ℕ) → u < t → candidates v u ≡ []) where
     best : Candidate
@@ -37,7 +36,7 @@ module _ (v : View) (few-decks : v .decks ≤ 256) (few-polygons : (d : ℕ) →
 
     not-unplaced : best .deck * 2 ^ 24 + best .polygon ≡ allOnes → ⊥
     not-unplaced =
-        not-all-ones (best .deck) (best .polygon) (v .polygons (best .deck)) (omega (arith, best-candidate .on-open .0)) (best-candidate .passes .0)
+        not-all-ones (best .deck) (best .polygon) (v .shown .polygons (best .deck)) (omega (arith, best-candidate .on-open .0)) (best-candidate .passes .0)
         (few-polygons (best .deck))
 
     at : t ≡ best .step
@@ -52,14 +51,14 @@ module _ (v : View) (few-decks : v .decks ≤ 256) (few-polygons : (d : ℕ) →
           earliest = subst (NoHit v) at (λ s l. no-hit v s (earliest s l));
           is-candidate = subst (λ (u : ℕ). IsCandidate v u best) at best-candidate;
           preferred = subst (λ (u : ℕ). (x : Candidate) → IsCandidate v u x → (x ≡ best) ⊎ Prefers v best x) at best-preferred;
-          tried = λ d. triedOf (best .step) (turn v (best .step) d);
+          tried = turnTried (v .shown) (best .step);
           tried-is = λ d o. tried-is v (best .step) d;
-          count = λ d. length (turnGives v (best .step) d);
+          count = λ d. length (turnGives (v .shown) (best .step) d);
           count-is = λ d o. count-is v (best .step) d;
           numbers =
-              ap₂ (placedRecord v best)
+              ap₂ (placedRecord (v .shown) best)
               (ap (λ (u : ℕ). triedBefore v u + triedIn v u) at
-              ∙ ap₂ _+_ (tried-before-is v (best .step) (subst (λ (u : ℕ). (s : ℕ) → s < u → candidates v s ≡ []) at earliest)) (tried-in-is v (best .step)))
+              ∙ ap₂ _+_ (tried-before-is v (best .step) (subst (λ (u : ℕ). (s : ℕ) → s < u → candidates v s ≡ []) at earliest)) refl)
               (ap length (sym found) ∙ ap (λ (u : ℕ). length (candidates v u)) at ∙ how-many v (best .step));
         }
 

@@ -3,11 +3,15 @@ use Prim.Native.Nat.{ℕ, suc, _+_, _*_}
 use mathlib.Core.Path.{_≡_, sym, ap, ap₂, _∙_, subst}
 use mathlib.Core.Logic.{_⊎_, inl, inr, ⊎-elim}
 use native.Mathlib.Decide.{ℕ-discrete}
-use Rattle.survey.specs.declared.Candidate.{Candidate}
-use Rattle.survey.specs.View.{View, candidate}
-use Rattle.survey.specs.Record.{SeatRecord, allOnes, placedRecord}
-use Rattle.survey.specs.Survey.{howMany, Open, NoHitOn, FirstHit, IsCandidate, Prefers, overOpen, samplesBelow, TriedOn, CandidatesOn, Placed, SeatSurvey}
-use Rattle.survey.proofs.Members.{three, sum-same}
+use Rattle.hits.specs.declared.Candidate.{Candidate}
+use Rattle.hits.specs.Candidates.{candidate}
+use Rattle.survey.specs.View.{View}
+use Rattle.words.specs.Bytes.{allOnes}
+use Rattle.words.specs.Rows.{howMany}
+use Rattle.records.specs.declared.SeatRecord.{SeatRecord}
+use Rattle.survey.specs.Record.{placedRecord}
+use Rattle.survey.specs.Survey.{Open, NoHitOn, FirstHit, IsCandidate, Prefers, overOpen, samplesBelow, TriedOn, CandidatesOn, Placed, SeatSurvey}
+use Rattle.words.proofs.Collecting.{three, sum-same}
 use Rattle.survey.proofs.Preference.{MeasuredHeight, MeasuredBelow, prefers-asym}
 use Rattle.survey.proofs.Steps.{same-hit, no-candidate}
 
@@ -41,10 +45,10 @@ module _ (v : View) where
     same-placed : Placed v S r → Placed v S r′ → r ≡ r′
     same-placed p q =
         p .numbers
-        ∙ ap₂ (λ (n m : ℕ). placedRecord v (p .chosen) (samplesBelow v s + n) m)
+        ∙ ap₂ (λ (n m : ℕ). placedRecord (v .shown) (p .chosen) (samplesBelow v s + n) m)
         (over-same (p .tried) (q .tried) (λ d o. said-once s d (suc (10 * s)) suc (p .tried d) (q .tried d) (p .tried-is d o) (subst (λ (u : ℕ). TriedOn v u d (q .tried d)) (sym e) (q .tried-is d o))))
         (over-same (p .count) (q .count) (λ d o. said-once s d 0 (given d) (p .count d) (q .count d) (p .count-is d o) (subst (λ (u : ℕ). CandidatesOn v u d (q .count d)) (sym e) (q .count-is d o))))
-        ∙ ap (λ (c : Candidate). placedRecord v c (samplesBelow v (c .step) + overOpen v (q .tried)) (overOpen v (q .count)))
+        ∙ ap (λ (c : Candidate). placedRecord (v .shown) c (samplesBelow v (c .step) + overOpen v (q .tried)) (overOpen v (q .count)))
         (same-best (p .chosen) (q .chosen)
         (measured (p .chosen .step) (p .below) (p .chosen) (p .is-candidate))
         (measured (q .chosen .step) (q .below) (q .chosen) (q .is-candidate))
@@ -59,7 +63,7 @@ module _ (v : View) where
         e = same-step p q
 
         given : ℕ → ℕ → ℕ
-        given d i = howMany (λ k. v .passes (candidate (p .chosen .step) d i k)) (v .polygons d)
+        given d i = howMany (λ k. v .shown .passes (candidate (p .chosen .step) d i k)) (v .shown .polygons d)
 
     pub survey-unique : SeatSurvey v S r → SeatSurvey v S r′ → r ≡ r′
     survey-unique p q = go (ℕ-discrete (r .polygon) allOnes)

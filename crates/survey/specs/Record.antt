@@ -1,27 +1,12 @@
--- Document 01, section 7: the record of a seat, nine numbers.
-use Prim.Native.Nat.{ℕ, suc, _+_, _*_, _^_}
-use mathlib.Core.List.{List, [], _∷_}
-use lib.ListN.{length}
-use lib.Ieee.{Float, binary32, toBits}
+-- Document 01, section 7: the record of a placed seat, for the candidate that it takes.
+use Prim.Native.Nat.{ℕ, _+_, _*_, _^_}
+use lib.Ieee.{binary32, toBits}
+use Rattle.geometry.specs.declared.Vec2.{Vec2}
 use Rattle.geometry.specs.declared.Height.{Height}
 use Rattle.geometry.specs.declared.Height.the-variants.{Known, None}
-use Rattle.survey.specs.declared.Candidate.{Candidate}
-use Rattle.survey.specs.View.{View}
-use Rattle.survey.specs.Search.{triedBefore, bestOf, Found, Nowhere, InStep, firstStep}
-
-pub record SeatRecord : Type 0 where
-  pub polygon : ℕ
-  pub x : ℕ
-  pub y : ℕ
-  pub kind : ℕ
-  pub height : ℕ
-  pub step : ℕ
-  pub sample : ℕ
-  pub tried : ℕ
-  pub candidates : ℕ
-
-abbrev pub allOnes : ℕ
-allOnes = 0xFFFF_FFFF
+use Rattle.records.specs.declared.SeatRecord.{SeatRecord}
+use Rattle.hits.specs.declared.Candidate.{Candidate}
+use Rattle.survey.specs.View.{Shown}
 
 -- kind: 1 if it has a height; height or 0
 abbrev pub heightKind : Height → ℕ
@@ -32,35 +17,21 @@ abbrev pub heightBits : Height → ℕ
 heightBits None = 0
 heightBits (Known h) = toBits binary32 h
 
--- unplaced: all ones, then zeros except samples tried
-abbrev pub unplacedRecord : ℕ → SeatRecord
-unplacedRecord tried =
-    record { polygon = allOnes; x = 0; y = 0; kind = 0; height = 0; step = 0; sample = 0; tried = tried; candidates = 0 }
-
--- a seat placed at c
-abbrev pub placedRecord : View → Candidate → ℕ → ℕ → SeatRecord
-placedRecord v c tried count =
+-- the candidate c, which lies at a place, with the height there
+abbrev pub recordAtPlace : Candidate → Vec2 → Height → ℕ → ℕ → SeatRecord
+recordAtPlace c place height tried count =
     record {
       polygon = c .deck * 2 ^ 24 + c .polygon;
-      x = toBits binary32 (v .place c .x);
-      y = toBits binary32 (v .place c .y);
-      kind = heightKind (v .height c);
-      height = heightBits (v .height c);
+      x = toBits binary32 (place .x);
+      y = toBits binary32 (place .y);
+      kind = heightKind height;
+      height = heightBits height;
       step = c .step;
       sample = c .sample;
       tried = tried;
       candidates = count;
     }
 
-abbrev pub recordOf : View → ℕ → Found → SeatRecord
-recordOf v S Nowhere = unplacedRecord (triedBefore v S)
-recordOf v S (InStep s c rest) = placedRecord v (bestOf v c rest) (triedBefore v (suc s)) (suc (length rest))
-
--- the record of a seat whose search runs S steps
-unfoldable pub seatRecord : View → ℕ → SeatRecord
-seatRecord v S = recordOf v S (firstStep v 0 S)
-
--- in the record's order
-abbrev pub recordWords : SeatRecord → List ℕ
-recordWords r =
-    r .polygon ∷ r .x ∷ r .y ∷ r .kind ∷ r .height ∷ r .step ∷ r .sample ∷ r .tried ∷ r .candidates ∷ []
+-- a seat placed at c
+abbrev pub placedRecord : Shown → Candidate → ℕ → ℕ → SeatRecord
+placedRecord w c tried count = recordAtPlace c (w .place c) (w .height c) tried count

@@ -1,68 +1,55 @@
 -- Document 01, sections 5 and 7: the search of one seat as it is computed, over what the seat sees.
--- 'From number a on, n of them' is the shape of each definition, so that a loop follows it.
 use Prim.Native.Nat.{ℕ, zero, suc, _+_, _*_}
-use mathlib.Core.List.{List, [], _∷_, _++_}
+use mathlib.Core.List.{List, [], _∷_}
 use mathlib.Core.Bool.{Bool, cond}
-use Rattle.survey.specs.declared.Candidate.{Candidate}
-use Rattle.survey.specs.declared.Hit.{Hit}
-use Rattle.survey.specs.declared.Hit.the-variants.{At, Missed}
-use Rattle.survey.specs.View.{View, candidate}
+use lib.ListN.{length}
+use Rattle.words.specs.Rows.{collect, sumOf}
+use Rattle.records.specs.declared.SeatRecord.{SeatRecord}
+use Rattle.records.specs.Record.{unplacedRecord}
+use Rattle.hits.specs.declared.Candidate.{Candidate}
+use Rattle.hits.specs.declared.Hit.{Hit}
+use Rattle.hits.specs.declared.Hit.the-variants.{At, Missed}
+use Rattle.hits.specs.Candidates.{candidate}
+use Rattle.hits.specs.Hits.{sampleHit, triedOf}
 use Rattle.survey.specs.Wishes.{nearer}
+use Rattle.survey.specs.View.{Shown, View}
+use Rattle.survey.specs.Record.{placedRecord}
 
--- the first of two hits
-abbrev pub orElse : Hit → Hit → Hit
-orElse (At i k) later = At i k
-orElse Missed later = later
+module _ (w : Shown) where
+  -- whether polygon k passes at sample i of step s on deck d
+  abbrev pub passesOn : ℕ → ℕ → ℕ → ℕ → Bool
+  passesOn s d i k = w .passes (candidate s d i k)
 
--- ---- one polygon test, whatever it is: passes i k says whether polygon k passes at sample i
-module _ (passes : ℕ → ℕ → Bool) where
-  -- the first polygon that passes at sample i
-  unfoldable pub polygonHit : ℕ → ℕ → ℕ → Hit
-  polygonHit i k zero = Missed
-  polygonHit i k (suc n) = let later = polygonHit i (k + 1) n in cond (passes i k) (At i k) later
-
-  -- the first sample that hits ends the deck's turn
-  unfoldable pub sampleHit : ℕ → ℕ → ℕ → Hit
-  sampleHit polygons i zero = Missed
-  sampleHit polygons i (suc n) = let later = sampleHit polygons (i + 1) n in orElse (polygonHit i 0 polygons) later
-
--- how many samples a turn of step s took: up to and including its hit, all 10 * s + 1 if none
-abbrev pub triedOf : ℕ → Hit → ℕ
-triedOf s (At i k) = i + 1
-triedOf s Missed = 10 * s + 1
-
-module _ (v : View) where
   -- deck d's turn in step s
   unfoldable pub turn : ℕ → ℕ → Hit
-  turn s d = sampleHit (λ i k. v .passes (candidate s d i k)) (v .polygons d) 0 (10 * s + 1)
+  turn s d = sampleHit (passesOn s d) (w .polygons d) 0 (10 * s + 1)
 
-  -- all polygons that pass at sample i of step s on deck d, in rising number
-  unfoldable pub passing : ℕ → ℕ → ℕ → ℕ → ℕ → List Candidate
-  passing s d i k zero = []
-  passing s d i k (suc n) =
-      let later = passing s d i (k + 1) n in
-      cond (v .passes (candidate s d i k)) (candidate s d i k ∷ later) later
+  -- those of the n polygons from k on that pass there, in rising number
+  abbrev pub passing : ℕ → ℕ → ℕ → ℕ → ℕ → List Candidate
+  passing s d i k n = collect (passesOn s d i) (λ j. candidate s d i j ∷ []) k n
 
+  -- a hit gives all polygons that pass at its sample
   abbrev pub given : ℕ → ℕ → Hit → List Candidate
-  given s d (At i k) = passing s d i 0 (v .polygons d)
+  given s d (At i k) = passing s d i 0 (w .polygons d)
   given s d Missed = []
 
-  -- the candidates of step s: each open deck in rising order
-  unfoldable pub candidatesFrom : ℕ → ℕ → ℕ → List Candidate
-  candidatesFrom s d zero = []
-  candidatesFrom s d (suc n) =
-      let later = candidatesFrom s (d + 1) n in
-      cond (v .opens d) (given s d (turn s d) ++ later) later
+  abbrev pub turnGives : ℕ → ℕ → List Candidate
+  turnGives s d = given s d (turn s d)
+
+  abbrev pub turnTried : ℕ → ℕ → ℕ
+  turnTried s d = triedOf s (turn s d)
+
+module _ (v : View) where
+  -- the candidates of step s: those of each open deck in rising order, here the n decks from d on
+  abbrev pub candidatesFrom : ℕ → ℕ → ℕ → List Candidate
+  candidatesFrom s d n = collect (v .opens) (turnGives (v .shown) s) d n
 
   abbrev pub candidates : ℕ → List Candidate
   candidates s = candidatesFrom s 0 (v .decks)
 
   -- the samples tried in step s
-  unfoldable pub triedFrom : ℕ → ℕ → ℕ → ℕ
-  triedFrom s d zero = 0
-  triedFrom s d (suc n) =
-      let later = triedFrom s (d + 1) n in
-      cond (v .opens d) (triedOf s (turn s d) + later) later
+  abbrev pub triedFrom : ℕ → ℕ → ℕ → ℕ
+  triedFrom s d n = sumOf (v .opens) (turnTried (v .shown) s) d n
 
   abbrev pub triedIn : ℕ → ℕ
   triedIn s = triedFrom s 0 (v .decks)
@@ -74,7 +61,7 @@ module _ (v : View) where
 
   -- ---- the choice: a later candidate takes the place of an earlier one only where its height is preferred
   abbrev pub better : Candidate → Candidate → Bool
-  better c d = nearer (v .wish) (v .height c) (v .height d)
+  better c d = nearer (v .wish) (v .shown .height c) (v .shown .height d)
 
   unfoldable pub bestOf : Candidate → List Candidate → Candidate
   bestOf c [] = c
@@ -93,3 +80,16 @@ stepOr (c ∷ rest) s later = InStep s c rest
 unfoldable pub firstStep : View → ℕ → ℕ → Found
 firstStep v s zero = Nowhere
 firstStep v s (suc n) = let later = firstStep v (s + 1) n in stepOr (candidates v s) s later
+
+-- the candidates of that step, in order
+abbrev pub foundIn : Found → List Candidate
+foundIn Nowhere = []
+foundIn (InStep s c rest) = c ∷ rest
+
+-- ---- the record of a seat whose search runs S steps
+abbrev pub recordOf : View → ℕ → Found → SeatRecord
+recordOf v S Nowhere = unplacedRecord (triedBefore v S)
+recordOf v S (InStep s c rest) = placedRecord (v .shown) (bestOf v c rest) (triedBefore v (suc s)) (suc (length rest))
+
+unfoldable pub seatRecord : View → ℕ → SeatRecord
+seatRecord v S = recordOf v S (firstStep v 0 S)

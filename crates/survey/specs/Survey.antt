@@ -1,23 +1,19 @@
 -- The surveyor's statement, of one seat: what 'unplaced' and 'placed' mean, and what each number of the record is (document 01, section 7).
 -- Nothing here searches: a sample hits or it does not, being a candidate is a condition, and of two candidates one is preferred.
-use Prim.Native.Nat.{ℕ, zero, suc, _+_, _*_, _-_, _≤_, _<_}
+use Prim.Native.Nat.{ℕ, suc, _+_, _*_, _-_, _≤_, _<_}
 use mathlib.Core.Path.{_≡_}
 use mathlib.Core.Logic.{_↔_, _⊎_}
-use mathlib.Core.Bool.{Bool, not, cond}
+use mathlib.Core.Bool.{Bool, not}
 use lib.Dec.{T}
-use Rattle.survey.specs.declared.Candidate.{Candidate}
+use Rattle.words.specs.Bytes.{allOnes}
+use Rattle.words.specs.Rows.{sumOf, howMany}
+use Rattle.records.specs.declared.SeatRecord.{SeatRecord}
+use Rattle.records.specs.Record.{unplacedRecord}
+use Rattle.hits.specs.declared.Candidate.{Candidate}
+use Rattle.hits.specs.Candidates.{candidate}
 use Rattle.survey.specs.Wishes.{nearer}
-use Rattle.survey.specs.View.{View, candidate}
-use Rattle.survey.specs.Record.{SeatRecord, allOnes, unplacedRecord, placedRecord}
-
--- f 0 + f 1 + .. + f (n - 1)
-unfoldable pub sumBelow : (ℕ → ℕ) → ℕ → ℕ
-sumBelow f zero = 0
-sumBelow f (suc n) = sumBelow f n + f n
-
--- how many numbers below n pass the test
-abbrev pub howMany : (ℕ → Bool) → ℕ → ℕ
-howMany p n = sumBelow (λ k. cond (p k) 1 0) n
+use Rattle.survey.specs.View.{View}
+use Rattle.survey.specs.Record.{placedRecord}
 
 module _ (v : View) where
   -- deck d is there, and open to the seat
@@ -26,7 +22,7 @@ module _ (v : View) where
 
   -- the polygon is there, and passes the polygon test at the sample
   abbrev pub Passes : Candidate → Type 0
-  Passes c = (c .polygon < v .polygons (c .deck)) × T (v .passes c)
+  Passes c = (c .polygon < v .shown .polygons (c .deck)) × T (v .shown .passes c)
 
   -- a sample hits exactly when some polygon of that deck passes at it
   abbrev pub Hits : ℕ → ℕ → ℕ → Type 0
@@ -62,7 +58,7 @@ module _ (v : View) where
 
   -- c's height is preferred to d's
   abbrev pub Nearer : Candidate → Candidate → Bool
-  Nearer c d = nearer (v .wish) (v .height c) (v .height d)
+  Nearer c d = nearer (v .wish) (v .shown .height c) (v .shown .height d)
 
   -- the seat prefers c to d: by height, and otherwise the earlier
   abbrev pub Prefers : Candidate → Candidate → Type 0
@@ -73,7 +69,7 @@ module _ (v : View) where
   openDecks = howMany (v .opens) (v .decks)
 
   abbrev pub overOpen : (ℕ → ℕ) → ℕ
-  overOpen f = sumBelow (λ d. cond (v .opens d) (f d) 0) (v .decks)
+  overOpen f = sumOf (v .opens) f 0 (v .decks)
 
   -- all samples of every open deck in the steps below s
   abbrev pub samplesBelow : ℕ → ℕ
@@ -86,7 +82,7 @@ module _ (v : View) where
   -- deck d's turn in step s gives n candidates
   abbrev pub CandidatesOn : ℕ → ℕ → ℕ → Type 0
   CandidatesOn s d n =
-      (NoHitOn s d × (n ≡ 0)) ⊎ ((i : ℕ) × FirstHit s d i × (n ≡ howMany (λ k. v .passes (candidate s d i k)) (v .polygons d)))
+      (NoHitOn s d × (n ≡ 0)) ⊎ ((i : ℕ) × FirstHit s d i × (n ≡ howMany (λ k. v .shown .passes (candidate s d i k)) (v .shown .polygons d)))
 
   -- a placed seat: at the earliest step with a hit, with the candidate of that step that the seat prefers to every other
   pub record Placed (S : ℕ) (r : SeatRecord) : Type 0 where
@@ -99,7 +95,7 @@ module _ (v : View) where
     pub tried-is : (d : ℕ) → Open d → TriedOn (chosen .step) d (tried d)
     pub count : ℕ → ℕ
     pub count-is : (d : ℕ) → Open d → CandidatesOn (chosen .step) d (count d)
-    pub numbers : r ≡ placedRecord v chosen (samplesBelow (chosen .step) + overOpen tried) (overOpen count)
+    pub numbers : r ≡ placedRecord (v .shown) chosen (samplesBelow (chosen .step) + overOpen tried) (overOpen count)
 
   -- unplaced exactly when there is no hit below S, and then all samples of every open deck were tried; otherwise placed
   pub record SeatSurvey (S : ℕ) (r : SeatRecord) : Type 0 where

@@ -3,13 +3,11 @@ use Prim.Native.Nat.{ℕ}
 use mathlib.Core.Bool.{Bool}
 use Rattle.geometry.specs.declared.Vec2.{Vec2}
 use Rattle.geometry.specs.declared.Height.{Height}
+use Rattle.hits.specs.declared.Candidate.{Candidate}
 use Rattle.survey.specs.declared.Wish.{Wish}
-use Rattle.survey.specs.declared.Candidate.{Candidate}
 
-pub record View : Type 0 where
-  -- how many decks there are, and which of them are open to the seat
-  pub decks : ℕ
-  pub opens : ℕ → Bool
+-- what the decks show around a point, open or not
+pub record Shown : Type 0 where
   -- how many polygons a deck has
   pub polygons : ℕ → ℕ
   -- whether the polygon passes section 3 at the sample
@@ -18,7 +16,10 @@ pub record View : Type 0 where
   pub place : Candidate → Vec2
   -- the height of the polygon at that place
   pub height : Candidate → Height
-  pub wish : Wish
 
-abbrev pub candidate : ℕ → ℕ → ℕ → ℕ → Candidate
-candidate s d i k = record { step = s; deck = d; sample = i; polygon = k }
+pub record View : Type 0 where
+  pub shown : Shown
+  -- how many decks there are, and which of them are open to the seat
+  pub decks : ℕ
+  pub opens : ℕ → Bool
+  pub wish : Wish

@@ -1,17 +1,22 @@
 -- Document 01, sections 5 and 7: which decks are open to a seat, and which of two heights it prefers.
 use Prim.Native.Nat.{ℕ, _/_, _%_, _^_}
 use mathlib.Core.List.{List}
-use mathlib.Core.Bool.{Bool, true, false, not}
+use mathlib.Core.Bool.{Bool, true, false, not, cond}
 use lib.Dec.{eqb}
 use lib.ListN.{getD}
 use lib.Ieee.{Float, binary32, sub, lt}
 use Rattle.geometry.specs.declared.Height.{Height}
 use Rattle.geometry.specs.declared.Height.the-variants.{Known, None}
 use Rattle.geometry.specs.Plane.{absOf}
+use Rattle.words.specs.Bytes.{allOnes}
 use Rattle.survey.specs.declared.DeckChoice.{DeckChoice}
 use Rattle.survey.specs.declared.DeckChoice.the-variants.{AnyDeck, Named}
 use Rattle.survey.specs.declared.Wish.{Wish}
 use Rattle.survey.specs.declared.Wish.the-variants.{NoWish, Wished}
+
+-- all ones: any deck
+unfoldable pub choiceOf : ℕ → DeckChoice
+choiceOf deck = cond (eqb deck allOnes) AnyDeck (Named deck)
 
 -- bit 0 is the lowest
 abbrev pub bitOf : ℕ → ℕ → Bool

@@ -3,8 +3,9 @@
 ghost use mathlib.Core.Path.{_≡_};
 ghost use Prim.Native.Nat.{_<_};
 ghost use lib.ListN.{length};
-ghost use Rattle.survey.specs.Wishes.{bitOf, isOpen, gapOf, nearer};
+ghost use Rattle.survey.specs.Wishes.{choiceOf, bitOf, isOpen, gapOf, nearer};
 use geometry::Height;
+use geometry::Vec2;
 
 // A seat names one deck or leaves the deck open.
 pub enum DeckChoice {
@@ -18,18 +19,22 @@ pub enum Wish {
     Wished(f32),
 }
 
-// The first sample of a deck's turn that hits, and the first polygon that passes there.
-pub enum Hit {
-    At(usize, usize),
-    Missed,
+// A seat names one deck or leaves the deck open, and has a wished height or none.
+pub struct Seat {
+    pub place: Vec2,
+    pub choice: DeckChoice,
+    pub wish: Wish,
 }
 
-// A polygon at a sample: of a step, on a deck.
-pub struct Candidate {
-    pub step: usize,
-    pub deck: usize,
-    pub sample: usize,
-    pub polygon: usize,
+// The deck that a number names, or any.
+pub fn choice_of(deck: u32) -> DeckChoice
+    ensures { λ r. ⌜ r ≡ choiceOf deck ⌝ }
+{
+    if deck == 0xFFFF_FFFF {
+        DeckChoice::AnyDeck
+    } else {
+        DeckChoice::Named(deck as usize)
+    }
 }
 
 // The bit of a number at a place from 0 to 7.

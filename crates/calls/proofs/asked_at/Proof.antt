@@ -5,7 +5,7 @@ use Rattle.calls.proofs.asked_at.Statement.{statement}
 use Rattle.calls.proofs.asked_at.Tie as tie
 
 choice-of-requires : tie.Need-choice-of-requires
-choice-of-requires c κs = search needs
+choice-of-requires c κs = search (asked-is, needs)
 
 returns : tie.Need-returns
 returns c = search (asked-is, needs)

@@ -1,6 +1,6 @@
 -- `get_closest_point_on_layers` meets its contract.
 use borrow.Author.Needs.{needs}
-use Rattle.calls.proofs.Answered.{first-point}
+use Rattle.calls.proofs.ClosestCalls.{first-point}
 use Rattle.calls.proofs.get_closest_point_on_layers.Statement.{statement}
 use Rattle.calls.proofs.get_closest_point_on_layers.Tie as tie
 
@@ -25,23 +25,23 @@ asked-at-requires c κs = search (first-point, needs)
 place-seat-requires : tie.Need-place-seat-requires
 place-seat-requires c κs = search (first-point, needs)
 
-enum-told-2 : tie.Need-enum-told-2
-enum-told-2 c = search (first-point, needs)
-
-enum-known-found : tie.Need-enum-known-found
-enum-known-found c = search (first-point, needs)
+unplaced-requires : tie.Need-unplaced-requires
+unplaced-requires c κs = search (first-point, needs)
 
 returns-2 : tie.Need-returns-2
 returns-2 c = search (first-point, needs)
 
-packed-requires : tie.Need-packed-requires
-packed-requires c κs = search (first-point, needs)
-
-put-candidate-requires : tie.Need-put-candidate-requires
-put-candidate-requires c κs = search (first-point, needs)
+room-for-requires : tie.Need-room-for-requires
+room-for-requires c κs = search (first-point, needs)
 
 returns-3 : tie.Need-returns-3
 returns-3 c = search (first-point, needs)
+
+slice-aggregate-put-words : tie.Need-slice-aggregate-put-words
+slice-aggregate-put-words c = search (first-point, needs)
+
+put-words-requires : tie.Need-put-words-requires
+put-words-requires c κs = search (first-point, needs)
 
 same-length : tie.Need-same-length
 same-length c = search (first-point, needs)
@@ -60,11 +60,11 @@ get-closest-point-on-layers-spec =
     all-directions-requires
     asked-at-requires
     place-seat-requires
-    enum-told-2
-    enum-known-found
+    unplaced-requires
     returns-2
-    packed-requires
-    put-candidate-requires
+    room-for-requires
     returns-3
+    slice-aggregate-put-words
+    put-words-requires
     same-length
     returns-4)

@@ -1,6 +1,6 @@
 -- `get_closest_points_on_layers` meets its contract.
 use borrow.Author.Needs.{needs}
-use Rattle.calls.proofs.Answered.{all-points}
+use Rattle.calls.proofs.ClosestCalls.{all-points}
 use Rattle.calls.proofs.get_closest_points_on_layers.Statement.{statement}
 use Rattle.calls.proofs.get_closest_points_on_layers.Tie as tie
 
@@ -25,29 +25,26 @@ asked-at-requires c κs = search (all-points, needs)
 place-seat-requires : tie.Need-place-seat-requires
 place-seat-requires c κs = search (all-points, needs)
 
-enum-told-2 : tie.Need-enum-told-2
-enum-told-2 c = search (all-points, needs)
-
-enum-known-found : tie.Need-enum-known-found
-enum-known-found c = search (all-points, needs)
-
-mul-if1 : tie.Need-mul-if1
-mul-if1 c = search (all-points, needs)
+unplaced-requires : tie.Need-unplaced-requires
+unplaced-requires c κs = search (all-points, needs)
 
 returns-2 : tie.Need-returns-2
 returns-2 c = search (all-points, needs)
 
-put-step-requires : tie.Need-put-step-requires
-put-step-requires c κs = search (all-points, needs)
+cast-step : tie.Need-cast-step
+cast-step c = search (all-points, needs)
 
-returns-3 : tie.Need-returns-3
-returns-3 c = search (all-points, needs)
+cast-put-counted : tie.Need-cast-put-counted
+cast-put-counted c = search (all-points, needs)
+
+put-counted-requires : tie.Need-put-counted-requires
+put-counted-requires c κs = search (all-points, needs)
 
 same-length : tie.Need-same-length
 same-length c = search (all-points, needs)
 
-returns-4 : tie.Need-returns-4
-returns-4 c = search (all-points, needs)
+returns-3 : tie.Need-returns-3
+returns-3 c = search (all-points, needs)
 
 pub get-closest-points-on-layers-spec : {M : Type 1} → statement M
 get-closest-points-on-layers-spec =
@@ -60,11 +57,10 @@ get-closest-points-on-layers-spec =
     all-directions-requires
     asked-at-requires
     place-seat-requires
-    enum-told-2
-    enum-known-found
-    mul-if1
+    unplaced-requires
     returns-2
-    put-step-requires
-    returns-3
+    cast-step
+    cast-put-counted
+    put-counted-requires
     same-length
-    returns-4)
+    returns-3)

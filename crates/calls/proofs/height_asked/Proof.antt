@@ -1,6 +1,6 @@
 -- `height_asked` meets its contract.
 use borrow.Author.Needs.{needs}
-use Rattle.calls.proofs.HeightAsks.{heights-asked}
+use Rattle.calls.proofs.HeightCalls.{heights-asked}
 use Rattle.calls.proofs.height_asked.Statement.{statement}
 use Rattle.calls.proofs.height_asked.Tie as tie
 

@@ -1,6 +1,6 @@
 -- `height_check` meets its contract.
 use borrow.Author.Needs.{needs}
-use Rattle.calls.proofs.HeightAsks.{height-asks}
+use Rattle.calls.proofs.HeightCalls.{height-asks}
 use Rattle.calls.proofs.height_check.Statement.{statement}
 use Rattle.calls.proofs.height_check.Tie as tie
 
@@ -11,7 +11,7 @@ enum-known-number : tie.Need-enum-known-number
 enum-known-number c = search (height-asks, needs)
 
 returns : tie.Need-returns
-returns c = search (height-asks, needs) depth 20
+returns c = search (height-asks, needs)
 
 enum-told : tie.Need-enum-told
 enum-told c = search (height-asks, needs)
@@ -20,10 +20,10 @@ place-in-size-requires : tie.Need-place-in-size-requires
 place-in-size-requires c κs = search (height-asks, needs)
 
 returns-2 : tie.Need-returns-2
-returns-2 c = search (height-asks, needs) depth 20
+returns-2 c = search (height-asks, needs)
 
 returns-3 : tie.Need-returns-3
-returns-3 c = search (height-asks, needs) depth 20
+returns-3 c = search (height-asks, needs)
 
 packed-deck-requires : tie.Need-packed-deck-requires
 packed-deck-requires c κs = search (height-asks, needs)
@@ -32,7 +32,7 @@ deck-count-requires : tie.Need-deck-count-requires
 deck-count-requires c κs = search (height-asks, needs)
 
 returns-4 : tie.Need-returns-4
-returns-4 c = search (height-asks, needs) depth 20
+returns-4 c = search (height-asks, needs)
 
 deck-blocks-requires : tie.Need-deck-blocks-requires
 deck-blocks-requires c κs = search (height-asks, needs)

@@ -1,6 +1,6 @@
 -- `put_candidate` meets its contract.
 use borrow.Author.Needs.{needs}
-use Rattle.calls.proofs.Entries.{entry}
+use Rattle.calls.proofs.EntryLoop.{entry}
 use Rattle.calls.proofs.put_candidate.Statement.{statement}
 use Rattle.calls.proofs.put_candidate.Tie as tie
 

@@ -1,63 +1,73 @@
--- `put_step` meets its contract. The loop's invariant: what the candidates of all decks write is what those from deck d on write into what stands there now.
-use Prim.Native.Nat.{_-_}
+-- `put_step` meets its contract. The loop's invariant: the first n candidates are written, and the others are left.
+use lib.ListN.{length}
 use borrow.Author.Needs.{needs}
-use Rattle.calls.proofs.Runs.{Stepping, stepping}
+use Rattle.walking.specs.Sees.{seenBy}
+use Rattle.walking.specs.Walk.{leftOf}
+use Rattle.calls.proofs.EntryLoop.{Putting, putting}
 use Rattle.calls.proofs.put_step.Statement.{statement}
 use Rattle.calls.proofs.put_step.Tie as tie
 
-abbrev Inv-decks : tie.InvT-decks
-Inv-decks file blocked table seat s out₀ decks choice n₀ d₀ out n d = Stepping file blocked seat s out₀ out n d
+abbrev Inv-candidates : tie.InvT-candidates
+Inv-candidates file blocked table seat s out₀ n₀ next₀ out n next = Putting file blocked seat s out₀ out n next
 
-abbrev μ-decks : tie.MeasureT-decks
-μ-decks file blocked table seat s out₀ decks choice n₀ d₀ out n d = decks - d
+abbrev μ-candidates : tie.MeasureT-candidates
+μ-candidates file blocked table seat s out₀ n₀ next₀ out n next = length (leftOf (seenBy file blocked seat) next)
 
-deck-count-requires : tie.Need-deck-count-requires Inv-decks μ-decks
-deck-count-requires c κs = search (stepping, needs)
+first-requires : tie.Need-first-requires Inv-candidates μ-candidates
+first-requires c κs = search (putting, needs)
 
-decks-holds : tie.Need-decks-holds Inv-decks μ-decks
-decks-holds c = search (stepping, needs)
+candidates-holds : tie.Need-candidates-holds Inv-candidates μ-candidates
+candidates-holds c = search (putting, needs)
 
-add-d : tie.Need-add-d Inv-decks μ-decks
-add-d c = search (stepping, needs)
+enum-told : tie.Need-enum-told Inv-candidates μ-candidates
+enum-told c = search (putting, needs)
 
-is-open-requires : tie.Need-is-open-requires Inv-decks μ-decks
-is-open-requires c κs = search (stepping, needs)
+same-length : tie.Need-same-length Inv-candidates μ-candidates
+same-length c = search (putting, needs)
 
-put-turn-requires : tie.Need-put-turn-requires Inv-decks μ-decks
-put-turn-requires c κs = search (stepping, needs)
+returns : tie.Need-returns Inv-candidates μ-candidates
+returns c = search (putting, needs)
 
-decks-less : tie.Need-decks-less Inv-decks μ-decks
-decks-less c = search (stepping, needs)
+enum-known-next : tie.Need-enum-known-next Inv-candidates μ-candidates
+enum-known-next c = search (putting, needs)
 
-decks-again : tie.Need-decks-again Inv-decks μ-decks
-decks-again c = search (stepping, needs)
+place-of-requires : tie.Need-place-of-requires Inv-candidates μ-candidates
+place-of-requires c κs = search (putting, needs)
 
-decks-less-2 : tie.Need-decks-less-2 Inv-decks μ-decks
-decks-less-2 c = search (stepping, needs)
+packed-requires : tie.Need-packed-requires Inv-candidates μ-candidates
+packed-requires c κs = search (putting, needs)
 
-decks-again-2 : tie.Need-decks-again-2 Inv-decks μ-decks
-decks-again-2 c = search (stepping, needs)
+put-candidate-requires : tie.Need-put-candidate-requires Inv-candidates μ-candidates
+put-candidate-requires c κs = search (putting, needs)
 
-same-length : tie.Need-same-length Inv-decks μ-decks
-same-length c = search (stepping, needs)
+add-n : tie.Need-add-n Inv-candidates μ-candidates
+add-n c = search (putting, needs)
 
-returns : tie.Need-returns Inv-decks μ-decks
-returns c = search (stepping, needs)
+after-requires : tie.Need-after-requires Inv-candidates μ-candidates
+after-requires c κs = search (putting, needs)
+
+candidates-less : tie.Need-candidates-less Inv-candidates μ-candidates
+candidates-less c = search (putting, needs)
+
+candidates-again : tie.Need-candidates-again Inv-candidates μ-candidates
+candidates-again c = search (putting, needs)
 
 pub put-step-spec : {M : Type 1} → statement M
 put-step-spec =
     tie.close
     (tie.spec
-    Inv-decks
-    μ-decks
-    deck-count-requires
-    decks-holds
-    add-d
-    is-open-requires
-    put-turn-requires
-    decks-less
-    decks-again
-    decks-less-2
-    decks-again-2
+    Inv-candidates
+    μ-candidates
+    first-requires
+    candidates-holds
+    enum-told
     same-length
-    returns)
+    returns
+    enum-known-next
+    place-of-requires
+    packed-requires
+    put-candidate-requires
+    add-n
+    after-requires
+    candidates-less
+    candidates-again)

@@ -16,6 +16,9 @@ returns c = search (queries, needs)
 enum-told : tie.Need-enum-told
 enum-told c = search (queries, needs)
 
+blocked-whole-requires : tie.Need-blocked-whole-requires
+blocked-whole-requires c κs = search (queries, needs)
+
 returns-2 : tie.Need-returns-2
 returns-2 c = search (queries, needs)
 
@@ -23,7 +26,7 @@ place-in-size-requires : tie.Need-place-in-size-requires
 place-in-size-requires c κs = search (queries, needs)
 
 returns-3 : tie.Need-returns-3
-returns-3 c = search (queries, needs) depth 20
+returns-3 c = search (queries, needs)
 
 deck-count-requires : tie.Need-deck-count-requires
 deck-count-requires c κs = search (queries, needs)
@@ -45,6 +48,7 @@ query-check-spec =
     enum-known-number
     returns
     enum-told
+    blocked-whole-requires
     returns-2
     place-in-size-requires
     returns-3

@@ -1,6 +1,6 @@
 -- `height_words` meets its contract.
 use borrow.Author.Needs.{needs}
-use Rattle.placing.proofs.Numbers.{heights}
+use Rattle.placing.proofs.SeatRecords.{heights}
 use Rattle.placing.proofs.height_words.Statement.{statement}
 use Rattle.placing.proofs.height_words.Tie as tie
 

@@ -20,11 +20,14 @@ steps-holds c = search (searching, needs)
 take-step-requires : tie.Need-take-step-requires Inv-steps μ-steps
 take-step-requires c κs = search (searching, needs)
 
-enum-known-choice : tie.Need-enum-known-choice Inv-steps μ-steps
-enum-known-choice c = search (searching, needs)
+enum-known-best : tie.Need-enum-known-best Inv-steps μ-steps
+enum-known-best c = search (searching, needs)
+
+placed-record-requires : tie.Need-placed-record-requires Inv-steps μ-steps
+placed-record-requires c κs = search (searching, needs)
 
 returns : tie.Need-returns Inv-steps μ-steps
-returns c = (search (searching, needs), (search (searching, needs), (search needs, search needs)))
+returns c = search (searching, needs)
 
 enum-told : tie.Need-enum-told Inv-steps μ-steps
 enum-told c = search (searching, needs)
@@ -38,6 +41,9 @@ steps-less c = search (searching, needs)
 steps-again : tie.Need-steps-again Inv-steps μ-steps
 steps-again c = search (searching, needs)
 
+unplaced-record-requires : tie.Need-unplaced-record-requires Inv-steps μ-steps
+unplaced-record-requires c κs = search (searching, needs)
+
 returns-2 : tie.Need-returns-2 Inv-steps μ-steps
 returns-2 c = search (searching, needs)
 
@@ -50,10 +56,12 @@ place-seat-spec =
     steps-requires
     steps-holds
     take-step-requires
-    enum-known-choice
+    enum-known-best
+    placed-record-requires
     returns
     enum-told
     add-s
     steps-less
     steps-again
+    unplaced-record-requires
     returns-2)

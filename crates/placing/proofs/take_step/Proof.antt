@@ -1,59 +1,69 @@
--- `take_step` meets its contract. The loop's invariant: the tally of the step is that of the decks from d on, after the tally so far.
-use Prim.Native.Nat.{_-_, _≤_}
+-- `take_step` meets its contract. The loop's invariant: what the candidates of the step come to is what those that are left come to, after the tally so far.
+use lib.ListN.{length}
 use borrow.Author.Needs.{needs}
-use Rattle.placing.proofs.DeckLoop.{Stepping, stepping}
+use Rattle.walking.specs.Sees.{seenBy}
+use Rattle.walking.specs.Walk.{leftOf}
+use Rattle.placing.proofs.CandidateLoop.{Taking, taking}
 use Rattle.placing.proofs.take_step.Statement.{statement}
 use Rattle.placing.proofs.take_step.Tie as tie
 
-abbrev Inv-decks : tie.InvT-decks
-Inv-decks file blocked table seat s tried decks choice tally₀ d₀ tally d = (d ≤ decks) × Stepping file blocked seat s tried tally d
+abbrev Inv-candidates : tie.InvT-candidates
+Inv-candidates file blocked table seat s tried wish tally₀ next₀ tally next = Taking file blocked seat s tried tally next
 
-abbrev μ-decks : tie.MeasureT-decks
-μ-decks file blocked table seat s tried decks choice tally₀ d₀ tally d = decks - d
+abbrev μ-candidates : tie.MeasureT-candidates
+μ-candidates file blocked table seat s tried wish tally₀ next₀ tally next = length (leftOf (seenBy file blocked seat) next)
 
-deck-count-requires : tie.Need-deck-count-requires Inv-decks μ-decks
-deck-count-requires c κs = search (stepping, needs)
+first-requires : tie.Need-first-requires Inv-candidates μ-candidates
+first-requires c κs = search (taking, needs)
 
-decks-holds : tie.Need-decks-holds Inv-decks μ-decks
-decks-holds c = search (stepping, needs)
+candidates-holds : tie.Need-candidates-holds Inv-candidates μ-candidates
+candidates-holds c = search (taking, needs)
 
-add-d : tie.Need-add-d Inv-decks μ-decks
-add-d c = search (stepping, needs)
+enum-known-next : tie.Need-enum-known-next Inv-candidates μ-candidates
+enum-known-next c = search (taking, needs)
 
-is-open-requires : tie.Need-is-open-requires Inv-decks μ-decks
-is-open-requires c κs = search (stepping, needs)
+add-t17 : tie.Need-add-t17 Inv-candidates μ-candidates
+add-t17 c = search (taking, needs)
 
-take-turn-requires : tie.Need-take-turn-requires Inv-decks μ-decks
-take-turn-requires c κs = search (stepping, needs)
+returns : tie.Need-returns Inv-candidates μ-candidates
+returns c = search (taking, needs)
 
-decks-less : tie.Need-decks-less Inv-decks μ-decks
-decks-less c = search (stepping, needs)
+enum-known-next-2 : tie.Need-enum-known-next-2 Inv-candidates μ-candidates
+enum-known-next-2 c = search (taking, needs)
 
-decks-again : tie.Need-decks-again Inv-decks μ-decks
-decks-again c = search (stepping, needs)
+place-of-requires : tie.Need-place-of-requires Inv-candidates μ-candidates
+place-of-requires c κs = search (taking, needs)
 
-decks-less-2 : tie.Need-decks-less-2 Inv-decks μ-decks
-decks-less-2 c = search (stepping, needs)
+height-of-requires : tie.Need-height-of-requires Inv-candidates μ-candidates
+height-of-requires c κs = search (taking, needs)
 
-decks-again-2 : tie.Need-decks-again-2 Inv-decks μ-decks
-decks-again-2 c = search (stepping, needs)
+take-requires : tie.Need-take-requires Inv-candidates μ-candidates
+take-requires c κs = search (taking, needs)
 
-returns : tie.Need-returns Inv-decks μ-decks
-returns c = search (stepping, needs)
+after-requires : tie.Need-after-requires Inv-candidates μ-candidates
+after-requires c κs = search (taking, needs)
+
+candidates-less : tie.Need-candidates-less Inv-candidates μ-candidates
+candidates-less c = search (taking, needs)
+
+candidates-again : tie.Need-candidates-again Inv-candidates μ-candidates
+candidates-again c = search (taking, needs)
 
 pub take-step-spec : {M : Type 1} → statement M
 take-step-spec =
     tie.close
     (tie.spec
-    Inv-decks
-    μ-decks
-    deck-count-requires
-    decks-holds
-    add-d
-    is-open-requires
-    take-turn-requires
-    decks-less
-    decks-again
-    decks-less-2
-    decks-again-2
-    returns)
+    Inv-candidates
+    μ-candidates
+    first-requires
+    candidates-holds
+    enum-known-next
+    add-t17
+    returns
+    enum-known-next-2
+    place-of-requires
+    height-of-requires
+    take-requires
+    after-requires
+    candidates-less
+    candidates-again)

@@ -8,7 +8,7 @@ use Rattle.search.proofs.first_hit.Statement.{statement}
 use Rattle.search.proofs.first_hit.Tie as tie
 
 abbrev Inv-polygons : tie.InvT-polygons
-Inv-polygons file b t p reach s polygons samples i q k₀ k = (k ≤ polygons) × PolygonsLeft (deckAt file b) p reach s i polygons k
+Inv-polygons file b t p reach s polygons samples i q k₀ k = (k ≤ polygons) × PolygonsLeft (deckAt file b) q i polygons 0 k
 
 abbrev μ-polygons : tie.MeasureT-polygons
 μ-polygons file b t p reach s polygons samples i q k₀ k = polygons - k

@@ -1,6 +1,6 @@
 -- `kind_allowed` meets its contract.
 use borrow.Author.Needs.{needs}
-use Rattle.seats.proofs.Ways.{kinds}
+use Rattle.seats.proofs.SeatReads.{kinds}
 use Rattle.seats.proofs.kind_allowed.Statement.{statement}
 use Rattle.seats.proofs.kind_allowed.Tie as tie
 

@@ -1,67 +1,44 @@
 -- `put_records` meets its contract. The loop's invariant: the records of the seats below i are written.
-use Prim.Native.Nat.{_≤_, _-_, _/_}
+use Prim.Native.Nat.{_-_, _≤_}
 use mathlib.Core.Path.{_≡_}
-use lib.ListN.{length}
-use Rattle.seats.proofs.Ways.{Recording, recording-more}
 use borrow.Author.Needs.{needs}
-use Rattle.seats.proofs.Ways.{recordings}
+use Rattle.seats.specs.SeatFile.{seatCount}
+use Rattle.seats.proofs.RunLoop.{Recording, recording}
 use Rattle.seats.proofs.put_records.Statement.{statement}
 use Rattle.seats.proofs.put_records.Tie as tie
 
 abbrev Inv-seats : tie.InvT-seats
-Inv-seats file blocked table seats out₀ count i₀ out i = (i ≤ count) × ((count ≡ length seats / 20) × Recording file blocked seats out₀ out i)
+Inv-seats file blocked table seats out₀ count i₀ out i = (i ≤ count) × ((count ≡ seatCount seats) × Recording file blocked table seats out₀ out i)
 
 abbrev μ-seats : tie.MeasureT-seats
 μ-seats file blocked table seats out₀ count i₀ out i = count - i
 
 seats-holds : tie.Need-seats-holds Inv-seats μ-seats
-seats-holds c = search (recordings, needs)
-
-seat-at-requires : tie.Need-seat-at-requires Inv-seats μ-seats
-seat-at-requires c κs = search (recordings, needs)
-
-place-seat-requires : tie.Need-place-seat-requires Inv-seats μ-seats
-place-seat-requires c κs = search (recordings, needs)
-
-record-words-requires : tie.Need-record-words-requires Inv-seats μ-seats
-record-words-requires c κs = search (recordings, needs)
-
-mul-put-words : tie.Need-mul-put-words Inv-seats μ-seats
-mul-put-words c = search (recordings, needs)
-
-slice-aggregate-put-words : tie.Need-slice-aggregate-put-words Inv-seats μ-seats
-slice-aggregate-put-words c = search (recordings, needs)
-
-put-words-requires : tie.Need-put-words-requires Inv-seats μ-seats
-put-words-requires c κs = search (recordings, needs)
+seats-holds c = search (recording, needs)
 
 add-i : tie.Need-add-i Inv-seats μ-seats
-add-i c = search (recordings, needs)
+add-i c = search (recording, needs)
+
+seat-at-requires : tie.Need-seat-at-requires Inv-seats μ-seats
+seat-at-requires c κs = search (recording, needs)
+
+place-seat-requires : tie.Need-place-seat-requires Inv-seats μ-seats
+place-seat-requires c κs = search (recording, needs)
+
+put-record-requires : tie.Need-put-record-requires Inv-seats μ-seats
+put-record-requires c κs = search (recording, needs)
 
 seats-less : tie.Need-seats-less Inv-seats μ-seats
-seats-less c = search (recordings, needs)
+seats-less c = search (recording, needs)
 
 seats-again : tie.Need-seats-again Inv-seats μ-seats
-seats-again c =
-    let written = c .before .before in
-    let recorded = written .before .before .before in
-    let placed = recorded .before in
-    let seated = placed .before in
-    let turn = seated .before in
-    let inv = turn .before .seats .inv in (
-      search needs,
-      (
-        search needs,
-        recording-more (inv .1 .1) (turn .seats-test .taken) (inv .1 .0) (seated .seat-at .ensures .0) (placed .place-seat .ensures .0) (recorded .record-words .ensures)
-            (written .put-words .ensures),
-      ),
-    )
+seats-again c = search (recording, needs)
 
 same-length : tie.Need-same-length Inv-seats μ-seats
-same-length c = search (recordings, needs)
+same-length c = search (recording, needs)
 
 returns : tie.Need-returns Inv-seats μ-seats
-returns c = search (recordings, needs)
+returns c = search (recording, needs)
 
 pub put-records-spec : {M : Type 1} → statement M
 put-records-spec =
@@ -70,13 +47,10 @@ put-records-spec =
     Inv-seats
     μ-seats
     seats-holds
+    add-i
     seat-at-requires
     place-seat-requires
-    record-words-requires
-    mul-put-words
-    slice-aggregate-put-words
-    put-words-requires
-    add-i
+    put-record-requires
     seats-less
     seats-again
     same-length

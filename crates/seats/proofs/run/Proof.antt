@@ -1,32 +1,38 @@
--- `run` meets its contract, the surveyor's statement with it.
+-- `run` meets its contract.
 use borrow.Author.Needs.{needs}
-use Rattle.seats.proofs.Ways.{runs}
+use Rattle.seats.proofs.RunLoop.{running}
 use Rattle.seats.proofs.run.Statement.{statement}
 use Rattle.seats.proofs.run.Tie as tie
 
 run-check-requires : tie.Need-run-check-requires
-run-check-requires c κs = search (runs, needs)
+run-check-requires c κs = search (running, needs)
 
 enum-known-number : tie.Need-enum-known-number
-enum-known-number c = search (runs, needs)
+enum-known-number c = search (running, needs)
 
 returns : tie.Need-returns
-returns c = search (runs, needs)
+returns c = search (running, needs)
 
 enum-told : tie.Need-enum-told
-enum-told c = search (runs, needs)
+enum-told c = search (running, needs)
 
-all-directions-requires : tie.Need-all-directions-requires
-all-directions-requires c κs = search (runs, needs)
-
-put-records-requires : tie.Need-put-records-requires
-put-records-requires c κs = search (runs, needs)
-
-same-length : tie.Need-same-length
-same-length c = search (runs, needs)
+room-for-requires : tie.Need-room-for-requires
+room-for-requires c κs = search (running, needs)
 
 returns-2 : tie.Need-returns-2
-returns-2 c = search (runs, needs)
+returns-2 c = search (running, needs)
+
+all-directions-requires : tie.Need-all-directions-requires
+all-directions-requires c κs = search (running, needs)
+
+put-records-requires : tie.Need-put-records-requires
+put-records-requires c κs = search (running, needs)
+
+same-length : tie.Need-same-length
+same-length c = search (running, needs)
+
+returns-3 : tie.Need-returns-3
+returns-3 c = search (running, needs)
 
 pub run-spec : {M : Type 1} → statement M
 run-spec =
@@ -36,7 +42,9 @@ run-spec =
     enum-known-number
     returns
     enum-told
+    room-for-requires
+    returns-2
     all-directions-requires
     put-records-requires
     same-length
-    returns-2)
+    returns-3)

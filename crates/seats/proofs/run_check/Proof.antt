@@ -1,6 +1,6 @@
 -- `run_check` meets its contract.
 use borrow.Author.Needs.{needs}
-use Rattle.seats.proofs.Ways.{run-asks}
+use Rattle.seats.proofs.SeatAsks.{run-asks}
 use Rattle.seats.proofs.run_check.Statement.{statement}
 use Rattle.seats.proofs.run_check.Tie as tie
 
@@ -16,11 +16,14 @@ returns c = search (run-asks, needs)
 enum-told : tie.Need-enum-told
 enum-told c = search (run-asks, needs)
 
+blocked-whole-requires : tie.Need-blocked-whole-requires
+blocked-whole-requires c κs = search (run-asks, needs)
+
 returns-2 : tie.Need-returns-2
 returns-2 c = search (run-asks, needs)
 
 returns-3 : tie.Need-returns-3
-returns-3 c = search (run-asks, needs)
+returns-3 c = search (run-asks, needs) depth 20
 
 deck-count-requires : tie.Need-deck-count-requires
 deck-count-requires c κs = search (run-asks, needs)
@@ -28,20 +31,8 @@ deck-count-requires c κs = search (run-asks, needs)
 seats-check-requires : tie.Need-seats-check-requires
 seats-check-requires c κs = search (run-asks, needs)
 
-enum-known-number-2 : tie.Need-enum-known-number-2
-enum-known-number-2 c = search (run-asks, needs)
-
 returns-4 : tie.Need-returns-4
-returns-4 c = search (run-asks, needs)
-
-enum-told-2 : tie.Need-enum-told-2
-enum-told-2 c = search (run-asks, needs)
-
-returns-5 : tie.Need-returns-5
-returns-5 c = search (run-asks, needs)
-
-returns-6 : tie.Need-returns-6
-returns-6 c = search (run-asks, needs)
+returns-4 c = search (run-asks, needs) depth 20
 
 pub run-check-spec : {M : Type 1} → statement M
 run-check-spec =
@@ -51,12 +42,9 @@ run-check-spec =
     enum-known-number
     returns
     enum-told
+    blocked-whole-requires
     returns-2
     returns-3
     deck-count-requires
     seats-check-requires
-    enum-known-number-2
-    returns-4
-    enum-told-2
-    returns-5
-    returns-6)
+    returns-4)

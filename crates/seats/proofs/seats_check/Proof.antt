@@ -1,15 +1,15 @@
 -- `seats_check` meets its contract. The loop's invariant: the seats below i passed.
-use Prim.Native.Nat.{_≤_, _-_, _/_}
+use Prim.Native.Nat.{_-_, _≤_}
 use mathlib.Core.Path.{_≡_}
-use lib.ListN.{length}
-use Rattle.seats.proofs.Ways.{Checked}
 use borrow.Author.Needs.{needs}
-use Rattle.seats.proofs.Ways.{seats-asks}
+use Rattle.answers.proofs.Asking.{Checked}
+use Rattle.seats.specs.SeatFile.{seatCount, seatCheck}
+use Rattle.seats.proofs.SeatAsks.{seats-asks}
 use Rattle.seats.proofs.seats_check.Statement.{statement}
 use Rattle.seats.proofs.seats_check.Tie as tie
 
 abbrev Inv-seats : tie.InvT-seats
-Inv-seats seats decks count i₀ i = (i ≤ count) × ((count ≡ length seats / 20) × Checked seats decks count i)
+Inv-seats seats decks count i₀ i = (i ≤ count) × ((count ≡ seatCount seats) × Checked (seatCheck seats decks) count i)
 
 abbrev μ-seats : tie.MeasureT-seats
 μ-seats seats decks count i₀ i = count - i

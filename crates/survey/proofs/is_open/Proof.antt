@@ -1,6 +1,6 @@
 -- `is_open` meets its contract.
 use borrow.Author.Needs.{needs}
-use Rattle.survey.proofs.Ways.{opens}
+use Rattle.survey.proofs.SeatAsks.{opens}
 use Rattle.survey.proofs.is_open.Statement.{statement}
 use Rattle.survey.proofs.is_open.Tie as tie
 

@@ -1,6 +1,6 @@
 -- `prefers_height` meets its contract.
 use borrow.Author.Needs.{needs}
-use Rattle.survey.proofs.Ways.{preferences}
+use Rattle.survey.proofs.SeatAsks.{preferences}
 use Rattle.survey.proofs.prefers_height.Statement.{statement}
 use Rattle.survey.proofs.prefers_height.Tie as tie
 

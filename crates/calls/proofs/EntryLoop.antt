@@ -1,0 +1,156 @@
+-- A candidate's entry, and the loop over the candidates of a step that writes them: what it says at its start, in a turn and at its end.
+use Prim.Native.Nat.{ℕ, _+_, _*_, _^_, _≤_, _<_}
+use mathlib.Core.Path.{_≡_, refl, sym, ap, ap₂, _∙_, subst}
+use mathlib.Core.Bool.{Bool, true, false, not}
+use mathlib.Core.List.{List, [], _∷_, _++_}
+use native.Mathlib.Omega.{arith}
+use native.Mathlib.Nat.{mul-suc}
+use mir.Syntax.{w64}
+use mir.Val.{Fits}
+use lib.IntN.{ℤ}
+use lib.ListN.{length, drop, length-drop}
+use lib.Ieee.{binary32, toBits}
+use Rattle.geometry.specs.declared.Vec2.{Vec2}
+use Rattle.geometry.specs.Bounds.{PointWithin}
+use Rattle.geometry.proofs.Bounds.{not-nan}
+use Rattle.words.specs.Bytes.{bytes4, joined, wordsOf, splice}
+use Rattle.words.proofs.Writing.{Rest, rest-all, rest-more-front, rest-front, length-joined, next-of}
+use Rattle.answers.specs.declared.Answer.the-variants.{Refused, Wrote}
+use Rattle.answers.specs.declared.Check.the-variants.{Passed}
+use Rattle.answers.specs.Questions.{question20}
+use Rattle.answers.specs.Replies.{Replied}
+use Rattle.answers.proofs.Asking.{said-yes, q20-fits}
+use Rattle.answers.proofs.Replying.{replied-short, replied-written, room-short, room-fits}
+use Rattle.hits.specs.declared.Candidate.{Candidate}
+use Rattle.hits.specs.Candidates.{candidate}
+use Rattle.ship.specs.Packed.{packedOf}
+use Rattle.ship.specs.Questions.{firstNo}
+use Rattle.survey.specs.declared.Seat.{Seat}
+use Rattle.survey.specs.View.{Shown}
+use Rattle.survey.specs.Search.{candidates}
+use Rattle.walking.specs.declared.Next.{Next}
+use Rattle.walking.specs.declared.Next.the-variants.{Reached, Ended}
+use Rattle.walking.specs.Sees.{shownBy, seenBy, CandidateIn, CandidateWithin}
+use Rattle.walking.specs.Walk.{candidatesAfter, leftOf, NextIn, WalkedStep, WalkedAfter}
+use Rattle.walking.proofs.ShownLaws.{candidate-within, few-candidates}
+use Rattle.calls.specs.Closest.{entrySize, entryBytes, candidateBytes, StepFits, StepPut, StepCount, stepReply, PutReady}
+
+-- ---- `put_candidate`
+pub entry-is : (polygon : ℕ) (place : Vec2) (out : List ℕ) (at : ℕ) {out′ : List ℕ}
+    → out′ ≡ splice out at (wordsOf (polygon ∷ toBits binary32 (place .x) ∷ toBits binary32 (place .y) ∷ [])) → out′ ≡ splice out at (entryBytes polygon place)
+unfolding entryBytes
+entry-is polygon place out at e = e
+
+pub ruleset entry = (not-nan, entry-is)
+
+-- ---- lengths
+pub length-candidate : (w : Shown) (c : Candidate) → length (candidateBytes w c) ≡ entrySize
+unfolding candidateBytes entryBytes joined bytes4
+length-candidate w c = refl
+
+pub length-candidates : (w : Shown) (l : List Candidate) → length (joined (candidateBytes w) l) ≡ entrySize * length l
+length-candidates w = length-joined (candidateBytes w) entrySize (length-candidate w)
+
+-- ---- `put_step`: the first n candidates stand in the output, and the others are left
+abbrev nowhere : Candidate
+nowhere = candidate 0 0 0 0
+
+pub record Putting (file blocked : List ℕ) (seat : Seat) (s : ℕ) (out₀ out : List ℕ) (n : ℕ) (next : Next) : Type 0 where
+  pub passed : firstNo file ≡ Passed
+  pub place-within : PointWithin 1000000 (seat .place)
+  pub room : StepFits (seenBy file blocked seat) s out₀
+  pub next-in : NextIn file next
+  pub rest : Rest (candidateBytes (shownBy file (seat .place))) entrySize nowhere out₀ 0 (candidates (seenBy file blocked seat) s) out n
+  pub left-is : drop n (candidates (seenBy file blocked seat) s) ≡ leftOf (seenBy file blocked seat) next
+
+pub putting-all : {file blocked : List ℕ} {table : List ℤ} {seat : Seat} {s : ℕ} {out : List ℕ} {next : Next} → PutReady file blocked table seat s out
+    → WalkedStep file (seenBy file blocked seat) s next → Putting file blocked seat s out out 0 next
+putting-all ready w =
+    record {
+      passed = ready .search-ready .file-ready .file-passed;
+      place-within = ready .search-ready .place-within;
+      room = ready .fits;
+      next-in = w .within;
+      rest = rest-all;
+      left-is = w .left-is;
+    }
+
+module _ {file blocked : List ℕ} {seat : Seat} {s : ℕ} {out₀ out : List ℕ} {n : ℕ} {next : Next} (h : Putting file blocked seat s out₀ out n next) where
+  pub putting-long : length out ≡ length out₀
+  putting-long = h .rest .long
+
+  pub putting-ended : {m : ℕ} → next ≡ Ended m → StepPut (seenBy file blocked seat) s out₀ out
+  putting-ended {m} e =
+      let none : drop n (candidates (seenBy file blocked seat) s) ≡ [] = rw e at (h .left-is) in
+      let long = length-drop n (candidates (seenBy file blocked seat) s) in
+      rest-front (h .rest) (length-candidate (shownBy file (seat .place))) (omega (arith, ap length none))
+
+  module _ {c : Candidate} {m : ℕ} (e : next ≡ Reached c m) where
+    pub putting-in : CandidateIn file c
+    putting-in = subst (NextIn file) e (h .next-in)
+
+    reached : drop n (candidates (seenBy file blocked seat) s) ≡ c ∷ candidatesAfter (seenBy file blocked seat) c
+    reached = rw e at (h .left-is)
+
+    below : n < length (candidates (seenBy file blocked seat) s)
+    below = next-of (candidates (seenBy file blocked seat) s) nowhere n reached .below
+
+    within : CandidateWithin c (shownBy file (seat .place) .place c) (shownBy file (seat .place) .height c)
+    within = candidate-within (h .passed) putting-in (h .place-within)
+
+    pub putting-deck : c .deck < 256
+    putting-deck = within .deck
+
+    pub putting-polygon : c .polygon < 2 ^ 24
+    putting-polygon = omega (arith, within .polygon)
+
+    pub putting-room : entrySize * n + entrySize ≤ length out
+    putting-room = omega (arith, below, h .room, h .rest .long)
+
+    pub putting-fits : Fits w64 (n + 1)
+    putting-fits = record { fits = omega (arith, below, few-candidates file blocked seat s (h .passed)) }
+
+    module _ {place : Vec2} (at : place ≡ shownBy file (seat .place) .place c) where
+      pub putting-place : PointWithin 3015000 place
+      putting-place = rw at (within .place-within)
+
+      module _ {next′ : Next} (w : WalkedAfter file (seenBy file blocked seat) c next′) where
+        pub putting-less : length (leftOf (seenBy file blocked seat) next′) < length (leftOf (seenBy file blocked seat) next)
+        putting-less = rw (e, ← w .left-is) (omega arith)
+
+        pub putting-more : {polygon : ℕ} {out′ : List ℕ} → polygon ≡ packedOf (c .deck) (c .polygon) → out′ ≡ splice out (entrySize * n) (entryBytes polygon place)
+            → Putting file blocked seat s out₀ out′ (n + 1) next′
+        unfolding candidateBytes
+        putting-more packed put =
+            let o = next-of (candidates (seenBy file blocked seat) s) nowhere n reached in
+            record {
+              passed = h .passed;
+              place-within = h .place-within;
+              room = h .room;
+              next-in = w .within;
+              rest = rest-more-front (h .rest) (length-candidate (shownBy file (seat .place))) below (h .room) (o .here) refl (put ∙ rw (packed, at));
+              left-is = o .after ∙ w .left-is;
+            }
+
+pub ruleset putting =
+    (putting-all, putting-long, putting-ended, putting-in, putting-deck, putting-polygon, putting-room, putting-fits, putting-place, putting-less, putting-more)
+
+-- ---- `put_counted`
+module _ (file blocked : List ℕ) (seat : Seat) (s : ℕ) {count : ℕ} (counted : StepCount (seenBy file blocked seat) s count) (out : List ℕ) {fits : Bool}
+    (room : fits ≡ question20 (entrySize * count) (length out)) where
+  step-long : length (stepReply (seenBy file blocked seat) s .bytes) ≡ entrySize * count
+  step-long = length-candidates (shownBy file (seat .place)) (candidates (seenBy file blocked seat) s) ∙ rw counted
+
+  pub step-refused : not fits ≡ true → Replied (stepReply (seenBy file blocked seat) s) out out (Refused 20)
+  step-refused no-room = replied-short refl refl (room-short (stepReply (seenBy file blocked seat) s) out entrySize count step-long room no-room)
+
+  module _ (has-room : not fits ≡ false) where
+    pub step-fits : StepFits (seenBy file blocked seat) s out
+    step-fits = rw (← counted) (q20-fits (entrySize * count) (length out) (said-yes room has-room))
+
+    pub step-written : {out′ : List ℕ} → StepPut (seenBy file blocked seat) s out out′ → Replied (stepReply (seenBy file blocked seat) s) out out′ (Wrote count)
+    step-written o =
+        replied-written refl refl (room-fits (stepReply (seenBy file blocked seat) s) out entrySize count step-long room has-room) counted
+        (o ∙ rw (length-candidates (shownBy file (seat .place)) (candidates (seenBy file blocked seat) s)))
+
+pub ruleset counted = (step-refused, step-fits, step-written)

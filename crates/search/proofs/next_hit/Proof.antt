@@ -1,0 +1,48 @@
+-- `next_hit` meets its contract. The loop's invariant: the hit is that of the polygons from j on.
+use Prim.Native.Nat.{_-_}
+use borrow.Author.Needs.{needs}
+use Rattle.ship.specs.Decode.{deckAt}
+use Rattle.search.proofs.TurnLoop.{PolygonsLeft, nexts}
+use Rattle.search.proofs.next_hit.Statement.{statement}
+use Rattle.search.proofs.next_hit.Tie as tie
+
+abbrev Inv-polygons : tie.InvT-polygons
+Inv-polygons file b q i k polygons j₀ j = PolygonsLeft (deckAt file b) q i polygons k j
+
+abbrev μ-polygons : tie.MeasureT-polygons
+μ-polygons file b q i k polygons j₀ j = polygons - j
+
+polygons-holds : tie.Need-polygons-holds Inv-polygons μ-polygons
+polygons-holds c = search (nexts, needs)
+
+point-in-polygon-requires : tie.Need-point-in-polygon-requires Inv-polygons μ-polygons
+point-in-polygon-requires c κs = search (nexts, needs)
+
+returns : tie.Need-returns Inv-polygons μ-polygons
+returns c = search (nexts, needs)
+
+add-j : tie.Need-add-j Inv-polygons μ-polygons
+add-j c = search (nexts, needs)
+
+polygons-less : tie.Need-polygons-less Inv-polygons μ-polygons
+polygons-less c = search (nexts, needs)
+
+polygons-again : tie.Need-polygons-again Inv-polygons μ-polygons
+polygons-again c = search (nexts, needs)
+
+returns-2 : tie.Need-returns-2 Inv-polygons μ-polygons
+returns-2 c = search (nexts, needs)
+
+pub next-hit-spec : {M : Type 1} → statement M
+next-hit-spec =
+    tie.close
+    (tie.spec
+    Inv-polygons
+    μ-polygons
+    polygons-holds
+    point-in-polygon-requires
+    returns
+    add-j
+    polygons-less
+    polygons-again
+    returns-2)

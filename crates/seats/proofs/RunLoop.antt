@@ -1,0 +1,100 @@
+-- The loop over the seats, `put_records`, and the run's reply.
+use Prim.Native.Nat.{ℕ, _+_, _*_, _≤_, _<_}
+use native.Mathlib.Omega.{arith}
+use mathlib.Core.Path.{_≡_, refl, sym, ap, _∙_}
+use mathlib.Core.Bool.{Bool, true, false, not}
+use mathlib.Core.List.{List, _++_}
+use lib.IntN.{ℤ}
+use lib.ListN.{length, getD, drop}
+use Rattle.geometry.specs.Bounds.{PointWithin}
+use Rattle.ring.specs.Table.{directions}
+use Rattle.words.specs.Bytes.{splice}
+use Rattle.words.proofs.Writing.{Rest, rest-all, rest-more-front, rest-front}
+use Rattle.answers.specs.declared.Answer.the-variants.{Refused, Wrote}
+use Rattle.answers.specs.declared.Check.{Check}
+use Rattle.answers.specs.declared.Check.the-variants.{Passed}
+use Rattle.answers.specs.Questions.{question20}
+use Rattle.answers.specs.Replies.{Replied}
+use Rattle.answers.proofs.Asking.{said-yes, said-passed, q20-fits}
+use Rattle.answers.proofs.Replying.{replied-refused, replied-short, replied-written, room-short, room-fits}
+use Rattle.records.specs.declared.SeatRecord.{SeatRecord}
+use Rattle.records.specs.Record.{recordSize, recordBytes}
+use Rattle.records.proofs.ReadBack.{noRecord, record-length}
+use Rattle.ship.specs.Decode.{decode}
+use Rattle.survey.specs.declared.Seat.{Seat}
+use Rattle.survey.specs.Search.{seatRecord}
+use Rattle.walking.specs.Sees.{seenBy, SearchReady}
+use Rattle.seats.specs.SeatFile.{seatSize, seatAt, seatCount, question16Seat}
+use Rattle.seats.specs.Run.{runCheck, runRecords, runReply, RecordsReady, RecordsPut}
+use Rattle.seats.specs.Survey.{Surveyed}
+use Rattle.seats.proofs.SeatAsks.{RunPassed, run-yes, run-blocked, seat-yes16, seat-inside}
+use Rattle.seats.proofs.RunRecords.{run-at, run-length, reply-long}
+use Rattle.seats.proofs.SurveyTheorem.{surveyed}
+
+-- ---- `put_records`: the records of the seats below i stand in the output, and the others are left
+pub record Recording (file blocked : List ℕ) (table : List ℤ) (seats out₀ out : List ℕ) (i : ℕ) : Type 0 where
+  pub passed : RunPassed file blocked seats
+  pub table-is : table ≡ directions
+  pub room : recordSize * seatCount seats ≤ length out₀
+  pub rest : Rest recordBytes recordSize noRecord out₀ 0 (runRecords file blocked seats) out i
+
+pub recording-all : {file blocked : List ℕ} {table : List ℤ} {seats out : List ℕ} → RecordsReady file blocked table seats out → Recording file blocked table seats out out 0
+recording-all {file} {blocked} {table} {seats} h = record { passed = run-yes file blocked seats (h .passed); table-is = h .table-is; room = h .room; rest = rest-all }
+
+module _ {file blocked : List ℕ} {table : List ℤ} {seats out₀ out : List ℕ} {i n : ℕ} (t : Recording file blocked table seats out₀ out i) (e : n ≡ seatCount seats) where
+  pub recording-none : n ≤ i → RecordsPut file blocked seats out₀ out
+  recording-none h =
+      rest-front (t .rest) record-length (omega (arith, run-length (decode file) blocked seats)) ∙ rw (run-length (decode file) blocked seats)
+
+  module _ (h : i < n) where
+    pub recording-floats : question16Seat seats i ≡ true
+    recording-floats = seat-yes16 (t .passed) i (omega arith)
+
+    pub recording-ready : {seat : Seat} → PointWithin 1000000 (seat .place) → SearchReady file blocked table seat
+    recording-ready p =
+        record {
+          file-ready = record { file-passed = t .passed .file-passed; table-is = t .table-is };
+          blocked-long = run-blocked file blocked seats (t .passed);
+          place-within = p;
+        }
+
+    pub recording-room : recordSize * i + recordSize ≤ length out
+    recording-room = omega (arith, t .rest .long, t .room)
+
+    pub recording-more : {seat : Seat} {r : SeatRecord} {out′ : List ℕ} → seat ≡ seatAt seats i → r ≡ seatRecord (seenBy file blocked seat) (decode file .steps)
+        → out′ ≡ splice out (recordSize * i) (recordBytes r) → Recording file blocked table seats out₀ out′ (i + 1)
+    recording-more hs hr w =
+        let long = run-length (decode file) blocked seats in
+        record {
+          passed = t .passed;
+          table-is = t .table-is;
+          room = t .room;
+          rest =
+              rest-more-front (t .rest) record-length (omega arith) (omega (arith, t .room)) (hr ∙ rw hs (sym (run-at (decode file) blocked seats i (omega arith)))) refl w;
+        }
+
+pub recording-long : {file blocked : List ℕ} {table : List ℤ} {seats out₀ out : List ℕ} {i : ℕ} → Recording file blocked table seats out₀ out i → length out ≡ length out₀
+recording-long t = t .rest .long
+
+pub ruleset recording = (recording-all, recording-none, seat-inside, recording-floats, recording-ready, recording-room, recording-more, recording-long)
+
+-- ---- `run`
+module _ (file blocked seats : List ℕ) {r : Check} (asked : r ≡ runCheck file blocked seats) (passed : r ≡ Passed) (out : List ℕ) {fits : Bool}
+    (room : fits ≡ question20 (recordSize * seatCount seats) (length out)) where
+  pub run-refused : not fits ≡ true → Replied (runReply file blocked seats) out out (Refused 20)
+  run-refused no-room = replied-short asked passed (room-short (runReply file blocked seats) out recordSize (seatCount seats) (reply-long file blocked seats) room no-room)
+
+  module _ (has-room : not fits ≡ false) where
+    pub run-ready : {table : List ℤ} → table ≡ directions → RecordsReady file blocked table seats out
+    run-ready d =
+        record { passed = sym asked ∙ passed; table-is = d; room = q20-fits (recordSize * seatCount seats) (length out) (said-yes room has-room) }
+
+    pub run-replied : {out′ : List ℕ} → RecordsPut file blocked seats out out′ → Replied (runReply file blocked seats) out out′ (Wrote (seatCount seats))
+    run-replied w =
+        replied-written asked passed (room-fits (runReply file blocked seats) out recordSize (seatCount seats) (reply-long file blocked seats) room has-room)
+        (sym (run-length (decode file) blocked seats)) (w ∙ rw (reply-long file blocked seats))
+
+    pub run-surveyed : {out′ : List ℕ} → RecordsPut file blocked seats out out′ → Surveyed file blocked seats (Wrote (seatCount seats)) out′
+    run-surveyed w = surveyed file blocked seats out (run-replied w)
+
+pub ruleset running = (replied-refused, run-refused, run-ready, run-replied, run-surveyed)

@@ -1,0 +1,131 @@
+// One walk over the candidates of a step on a ship file, in their order (document 01, section 5). Who walks decides what becomes of them:
+// the run chooses one, a call writes them.
+ghost use mathlib.Core.Path.{_≡_};
+ghost use Prim.Native.Nat.{_≤_, _<_};
+ghost use Rattle.ship.specs.Blocks.{decksIn};
+ghost use Rattle.ship.specs.Decode.{decode};
+ghost use Rattle.survey.specs.Search.{turn};
+ghost use Rattle.walking.specs.Sees.{sampleOn, shownBy, seenBy, FileReady, SearchReady, TurnIn, CandidateIn};
+ghost use Rattle.walking.specs.Walk.{passingAfter, WalkedFrom, WalkedStep, WalkedAfter};
+use geometry::Height;
+use geometry::Vec2;
+use hits::Candidate;
+use hits::Hit;
+use survey::Seat;
+
+// Where a walk came to: a candidate, or the end of the step. With it, how many samples the turns on the way took.
+pub enum Next {
+    Reached(Candidate, usize),
+    Ended(usize),
+}
+
+// Deck d's turn in step s, around p.
+fn deck_turn(file: &[u8], table: &[i32; 2432], p: Vec2, d: usize, s: usize) -> Hit
+    requires { ⌜ FileReady (now file) (now table) × TurnIn (now file) d s ⌝ }
+    ensures { λ r. ⌜ r ≡ turn (shownBy (now (file .entry)) p) s d ⌝ }
+{
+    let b = decks::deck_blocks(file, d);
+    let around = geometry::sub(p, decks::offset(file, b));
+    search::first_hit(file, b, table, around, decks::reach(file), s)
+}
+
+// The candidate's sample, in the coordinates of its deck.
+fn sample_on(file: &[u8], table: &[i32; 2432], p: Vec2, c: Candidate) -> Vec2
+    requires { ⌜ FileReady (now file) (now table) × CandidateIn (now file) c ⌝ }
+    ensures { λ r. ⌜ r ≡ sampleOn (decode (now (file .entry))) p c ⌝ }
+{
+    let b = decks::deck_blocks(file, c.deck);
+    let around = geometry::sub(p, decks::offset(file, b));
+    ring::sample(table, around, decks::reach(file), c.step, c.sample)
+}
+
+// Where the candidate lies.
+pub fn place_of(file: &[u8], table: &[i32; 2432], p: Vec2, c: Candidate) -> Vec2
+    requires { ⌜ FileReady (now file) (now table) × CandidateIn (now file) c ⌝ }
+    ensures { λ r. ⌜ r ≡ shownBy (now (file .entry)) p .place c ⌝ }
+{
+    let b = decks::deck_blocks(file, c.deck);
+    geometry::add(sample_on(file, table, p, c), decks::offset(file, b))
+}
+
+// The height there.
+pub fn height_of(file: &[u8], table: &[i32; 2432], p: Vec2, c: Candidate) -> Height
+    requires { ⌜ FileReady (now file) (now table) × CandidateIn (now file) c ⌝ }
+    ensures { λ r. ⌜ r ≡ shownBy (now (file .entry)) p .height c ⌝ }
+{
+    let b = decks::deck_blocks(file, c.deck);
+    search::height_at(file, b, c.polygon, place_of(file, table, p, c))
+}
+
+// The next polygon after c's that passes at its sample.
+fn next_passing(file: &[u8], table: &[i32; 2432], p: Vec2, c: Candidate) -> Hit
+    requires { ⌜ FileReady (now file) (now table) × CandidateIn (now file) c ⌝ }
+    ensures { λ r. ⌜ r ≡ passingAfter (shownBy (now (file .entry)) p) c ⌝ }
+{
+    let b = decks::deck_blocks(file, c.deck);
+    let q = sample_on(file, table, p, c);
+    search::next_hit(file, b, q, c.sample, c.polygon + 1)
+}
+
+// The first candidate of step s on the decks from d on.
+fn turns_from(
+    file: &[u8],
+    blocked: &[u8],
+    table: &[i32; 2432],
+    seat: Seat,
+    s: usize,
+    d: usize,
+) -> Next
+    requires { ⌜ SearchReady (now file) (now blocked) (now table) seat × ((s < 16) × (d ≤ decksIn (now file))) ⌝ }
+    ensures { λ r. ⌜ WalkedFrom (now (file .entry)) (seenBy (now (file .entry)) (now (blocked .entry)) seat) s d r ⌝ }
+{
+    let decks = decks::deck_count(file);
+    let choice = seat.choice;
+    let mut tried: usize = 0;
+    let mut e = d;
+    'decks: while e < decks {
+        let deck = e;
+        e += 1;
+        if survey::is_open(blocked, choice, deck) {
+            let hit = deck_turn(file, table, seat.place, deck, s);
+            tried += hits::tried(s, hit);
+            if let Hit::At(sample, polygon) = hit {
+                let c = Candidate {
+                    step: s,
+                    deck,
+                    sample,
+                    polygon,
+                };
+                return Next::Reached(c, tried);
+            }
+        }
+    }
+    Next::Ended(tried)
+}
+
+// The first candidate of step s.
+pub fn first(file: &[u8], blocked: &[u8], table: &[i32; 2432], seat: Seat, s: usize) -> Next
+    requires { ⌜ SearchReady (now file) (now blocked) (now table) seat × (s < 16) ⌝ }
+    ensures { λ r. ⌜ WalkedStep (now (file .entry)) (seenBy (now (file .entry)) (now (blocked .entry)) seat) s r ⌝ }
+{
+    turns_from(file, blocked, table, seat, s, 0)
+}
+
+// The candidate that comes after c in its step.
+pub fn after(file: &[u8], blocked: &[u8], table: &[i32; 2432], seat: Seat, c: Candidate) -> Next
+    requires { ⌜ SearchReady (now file) (now blocked) (now table) seat × CandidateIn (now file) c ⌝ }
+    ensures { λ r. ⌜ WalkedAfter (now (file .entry)) (seenBy (now (file .entry)) (now (blocked .entry)) seat) c r ⌝ }
+{
+    match next_passing(file, table, seat.place, c) {
+        Hit::At(_, polygon) => {
+            let next = Candidate {
+                step: c.step,
+                deck: c.deck,
+                sample: c.sample,
+                polygon,
+            };
+            Next::Reached(next, 0)
+        }
+        Hit::Missed => turns_from(file, blocked, table, seat, c.step, c.deck + 1),
+    }
+}
