@@ -16,10 +16,12 @@ use Rattle.lines.specs.Lines.{refusedLine}
 use Rattle.lines.specs.Input.{question21}
 use Rattle.lines.proofs.Lengths.{seat-long, end-long, refused-long}
 use Rattle.lines.proofs.Question21.{input-small}
+use Rattle.ship.specs.Decode.{decode}
 use Rattle.seats.specs.Run.{runCheck, runRecords}
+use Rattle.seats.proofs.RunRecords.{run-length}
 use Rattle.listing.specs.Listing.{fileIn, blockedIn, seatsIn, seatLines, placedIn, unplacedIn, runText, listText, seatlistText, textReply}
 use Rattle.listing.specs.Sizes.{mostSeats, seatsSize, longestText}
-use Rattle.listing.proofs.Texts.{prefix-long, ran-length}
+use Rattle.listing.proofs.Texts.{prefix-long}
 
 module _ (input : List ℕ) {out out′ : List ℕ} {r : Answer} (replied : Replied (textReply input) out out′ r) {n : ℕ} (wrote : r ≡ Wrote n) where
   pub text-within : n ≤ length out′
@@ -43,7 +45,7 @@ text-longest input = go (question21 input) refl
     go true e =
         let few : length (seatsIn input) ≤ seatsSize = simp length-drop (omega (arith, input-small input e)) in
         run-long (runCheck (fileIn input) (blockedIn input) (seatsIn input)) (runRecords (fileIn input) (blockedIn input) (seatsIn input))
-        (omega (arith, ran-length (fileIn input) (blockedIn input) (seatsIn input)))
+        (omega (arith, run-length (decode (fileIn input)) (blockedIn input) (seatsIn input)))
     go false e = omega (arith, refused-long 21)
 
 -- an output that holds the longest text is never too short

@@ -1,10 +1,10 @@
 -- The text of a run, of an input, and in the output.
-use Prim.Native.Nat.{ℕ, _+_, _-_, _*_, _/_, _≤_, _<_}
+use Prim.Native.Nat.{ℕ, _+_, _-_, _*_, _≤_, _<_}
 use native.Mathlib.Omega.{arith}
-use mathlib.Core.Path.{_≡_, refl, sym, ap, _∙_}
+use mathlib.Core.Path.{_≡_, refl, sym, ap}
 use mathlib.Core.Bool.{Bool, true, not}
 use mathlib.Core.List.{List}
-use lib.ListN.{length, take, drop, length-drop, length-map}
+use lib.ListN.{length, take, drop, length-drop}
 use lib.Seq.{length-take-le, take-at, take-all}
 use Rattle.words.specs.Bytes.{u32At, splice}
 use Rattle.words.proofs.Splice.{length-splice}
@@ -22,10 +22,11 @@ use Rattle.lines.specs.Lines.{endLine, refusedLine}
 use Rattle.lines.specs.Input.{question21}
 use Rattle.lines.proofs.Joining.{put-put}
 use Rattle.lines.proofs.Question21.{input-small}
-use Rattle.seats.specs.SeatFile.{seatAt, seatsOf, seatCount}
-use Rattle.seats.specs.Run.{seatRun, runRecords, runReply}
+use Rattle.ship.specs.Decode.{decode}
+use Rattle.seats.specs.Run.{runRecords, runReply}
+use Rattle.seats.proofs.RunRecords.{run-length, reply-long}
 use Rattle.listing.specs.Listing.{seatsIn, seatLines, placedIn, unplacedIn, runText, listText, seatlistText, textReply}
-use Rattle.listing.specs.Sizes.{mostSeats, seatsSize, recordsSize, textSize, Written, RunWritten}
+use Rattle.listing.specs.Sizes.{mostSeats, seatsSize, recordsSize, textSize, Written}
 use Rattle.listing.proofs.Records.{all-counted}
 
 -- ---- text at the start
@@ -61,13 +62,9 @@ records-put records {s} {t} {u} {count} {n} {m} {placed} few room p h e q l =
 
 -- ---- put_run
 module _ (file blocked seats : List ℕ) where
-  pub ran-length : length (runRecords file blocked seats) ≡ length seats / 20
-  unfolding seatRun
-  ran-length = length-map (seatsOf seats) _ ∙ length-rows (seatAt seats) (seatCount seats) 0
-
   module _ {out out′ : List ℕ} {r : Answer} (replied : Replied (runReply file blocked seats) out out′ r) (few : length seats ≤ seatsSize) where
     pub ran-few : {count : ℕ} → r ≡ Wrote count → count ≤ mostSeats
-    ran-few w = omega (arith, wrote-count replied w, ran-length)
+    ran-few w = omega (arith, wrote-count replied w, run-length (decode file) blocked seats)
 
     pub ran-room : {count : ℕ} → r ≡ Wrote count → recordSize * count ≤ length out′
     ran-room w = omega (arith, wrote-count replied w, wrote-check replied w .1, records-length (runRecords file blocked seats), replied-length replied)
@@ -83,9 +80,7 @@ module _ (file blocked seats : List ℕ) where
     pub ran-refused : {number n : ℕ} {s t : List ℕ} → r ≡ Refused number → recordsSize ≤ length out → Put s 0 (refusedLine number) t n → Put s 0 (listText file blocked seats) t n
     unfolding listText
     ran-refused e room p =
-        let rs = runRecords file blocked seats in
-        let l : length (recordsBytes rs) ≤ length out = omega (arith, records-length rs, ran-length) in
-        rw (refused-check replied e l) p
+        rw (refused-check replied e (omega (arith, reply-long file blocked seats))) p
 
 -- ---- put_text
 module _ (input : List ℕ) where
@@ -101,7 +96,7 @@ module _ (input : List ℕ) where
     seats-few = rw (seats-are, length-drop) (omega (arith, input-small input yes))
 
     pub input-listed : {s t : List ℕ} {n : ℕ}
-        → RunWritten (take (end - 4) (drop 4 input)) (take (end + 32 - end) (drop end input)) (take (length input - (end + 32)) (drop (end + 32) input)) s t n
+        → Written s (listText (take (end - 4) (drop 4 input)) (take (end + 32 - end) (drop end input)) (take (length input - (end + 32)) (drop (end + 32) input))) t n
         → Written s (seatlistText input) t n
     unfolding seatlistText
     input-listed p =

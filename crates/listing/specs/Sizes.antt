@@ -4,7 +4,6 @@ use mathlib.Core.List.{List}
 use lib.ListN.{length}
 use Rattle.records.specs.Record.{recordSize}
 use Rattle.lines.specs.Text.{Put}
-use Rattle.listing.specs.Listing.{listText}
 
 -- 65,536 bytes, less a length and a blocked set, and 20 bytes a seat
 abbrev pub seatsSize : ℕ
@@ -31,7 +30,3 @@ Room text records count = (count ≤ mostSeats) × (recordSize * count ≤ lengt
 -- text with these bytes at its start, and how many there are: no more than fit
 abbrev pub Written : List ℕ → List ℕ → List ℕ → ℕ → Type 0
 Written text bytes text′ n = Put text 0 bytes text′ n × (n ≤ length text′)
-
--- the text of a run on the parts of an input
-abbrev pub RunWritten : List ℕ → List ℕ → List ℕ → List ℕ → List ℕ → ℕ → Type 0
-RunWritten file blocked seats text text′ n = Written text (listText file blocked seats) text′ n

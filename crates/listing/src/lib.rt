@@ -6,8 +6,8 @@ ghost use Rattle.answers.specs.declared.Check.the-variants.{Passed};
 ghost use Rattle.answers.specs.Replies.{Replied};
 ghost use Rattle.records.specs.Record.{recordSize, recordsIn};
 ghost use Rattle.lines.specs.Text.{Put};
-ghost use Rattle.listing.specs.Listing.{seatLines, placedIn, runText, seatlistText, textReply};
-ghost use Rattle.listing.specs.Sizes.{seatsSize, recordsSize, textSize, mostSeats, Room, Written, RunWritten};
+ghost use Rattle.listing.specs.Listing.{seatLines, placedIn, runText, listText, seatlistText, textReply};
+ghost use Rattle.listing.specs.Sizes.{seatsSize, recordsSize, textSize, mostSeats, Room, Written};
 use answers::Answer;
 
 // A line a seat, in list order.
@@ -54,7 +54,8 @@ fn put_records(text: &mut [u8], records: &[u8], count: usize) -> usize
 // The run on the parts of an input, with room for its records.
 fn put_run(text: &mut [u8], records: &mut [u8], file: &[u8], blocked: &[u8], seats: &[u8]) -> usize
     requires { ⌜ (length (now seats) ≤ seatsSize) × (recordsSize ≤ length (now records)) × (textSize ≤ length (now text)) ⌝ }
-    ensures { λ n. ⌜ RunWritten (now (file .entry)) (now (blocked .entry)) (now (seats .entry)) (now (text .entry)) (now (text .exit)) n ⌝ }
+    ensures { λ n. ⌜ Written (now (text .entry)) (listText (now (file .entry)) (now (blocked .entry)) (now (seats .entry)))
+        (now (text .exit)) n ⌝ }
 {
     match seats::run(file, blocked, seats, records) {
         Answer::Refused(number) => lines::put_refused(text, 0, number),
