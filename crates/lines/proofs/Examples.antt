@@ -1,12 +1,13 @@
 -- Numbers, the document's lines, and the least input, as definitions evaluated.
-use Prim.Native.Nat.{ℕ}
 use mathlib.Core.Path.{_≡_, refl}
 use mathlib.Core.Bool.{true, false}
-use mathlib.Core.List.{List, [], _∷_}
+use mathlib.Core.List.{[], _∷_}
 use lib.ListN.{replicate}
-use Rattle.words.specs.Bytes.{u32At, bytes4, joined, wordsOf}
+use Rattle.words.specs.Bytes.{u32At}
+use Rattle.records.specs.declared.SeatRecord.{SeatRecord}
+use Rattle.records.specs.Record.{unplacedRecord}
 use Rattle.lines.specs.Text.{decimalFrom, decimal, hexFrom, hex}
-use Rattle.lines.specs.Lines.{rowAt, noneFields, placedFields, seatLine, endLine, refusedLine}
+use Rattle.lines.specs.Lines.{noneFields, placedFields, seatLine, endLine, refusedLine}
 use Rattle.lines.specs.Input.{question21}
 
 -- '0', '1216', '3F800000'
@@ -26,22 +27,21 @@ hex-one : hex 0x3F80_0000 ≡ 51 ∷ 70 ∷ 56 ∷ 48 ∷ 48 ∷ 48 ∷ 48 ∷ 4
 unfolding hex hexFrom
 hex-one = refl
 
--- two records of nine words
-abbrev records : List ℕ
-records =
-    wordsOf
-    (0 ∷ 0x3F80_0000 ∷ 0x3F80_0000 ∷ 1 ∷ 0x4000_0000 ∷ 0 ∷ 0 ∷ 1 ∷ 1 ∷ 0xFFFF_FFFF ∷ 0 ∷ 0 ∷ 0 ∷ 0 ∷ 0 ∷ 0 ∷ 12 ∷ 0 ∷ [])
+-- the first seat of the document's example
+abbrev placed : SeatRecord
+placed =
+    record { polygon = 0; x = 0x3F80_0000; y = 0x3F80_0000; kind = 1; height = 0x4000_0000; step = 0; sample = 0; tried = 1; candidates = 1 }
 
 -- `0 placed 0 0 3F800000 3F800000 40000000 0 0 1 1`
 placed-line :
-    seatLine 0 (rowAt records 0)
+    seatLine 0 placed
     ≡ 48 ∷ 32 ∷ 112 ∷ 108 ∷ 97 ∷ 99 ∷ 101 ∷ 100 ∷ 32 ∷ 48 ∷ 32 ∷ 48 ∷ 32 ∷ 51 ∷ 70 ∷ 56 ∷ 48 ∷ 48 ∷ 48 ∷ 48 ∷ 48 ∷ 32 ∷ 51 ∷ 70 ∷ 56 ∷ 48 ∷ 48 ∷ 48 ∷ 48 ∷ 48 ∷ 32 ∷ 52 ∷ 48 ∷ 48 ∷ 48 ∷ 48 ∷ 48 ∷ 48 ∷ 48 ∷ 32 ∷ 48 ∷ 32 ∷ 48 ∷ 32 ∷ 49 ∷ 32 ∷ 49 ∷ 10 ∷ []
-unfolding seatLine rowAt noneFields placedFields decimal decimalFrom hex hexFrom u32At bytes4 joined
+unfolding seatLine noneFields placedFields decimal decimalFrom hex hexFrom
 placed-line = refl
 
 -- `1 none 12`
-none-line : seatLine 1 (rowAt records 1) ≡ 49 ∷ 32 ∷ 110 ∷ 111 ∷ 110 ∷ 101 ∷ 32 ∷ 49 ∷ 50 ∷ 10 ∷ []
-unfolding seatLine rowAt noneFields placedFields decimal decimalFrom hex hexFrom u32At bytes4 joined
+none-line : seatLine 1 (unplacedRecord 12) ≡ 49 ∷ 32 ∷ 110 ∷ 111 ∷ 110 ∷ 101 ∷ 32 ∷ 49 ∷ 50 ∷ 10 ∷ []
+unfolding seatLine noneFields placedFields decimal decimalFrom hex hexFrom
 none-line = refl
 
 -- `end 1 1`, `refused 21`

@@ -1,8 +1,7 @@
 pub mod Digits
 pub mod Readback
 pub mod Joining
-pub mod Backward
-pub mod Ways
 pub mod Parts
+pub mod Lengths
+pub mod Question21
 pub mod Examples
-pub mod InputParts

@@ -1,27 +1,12 @@
 -- Document 01, section 7: the lines of `seatlist`. Fields: seat from 0, word, deck, polygon in its deck, x, y and height as hexadecimal bits
 -- (height `-` if none), step, sample, tried, candidates; after `none`, tried; after `end`, placed and unplaced.
-use Prim.Native.Nat.{ℕ, _+_, _*_, _/_, _%_, _^_}
-use mathlib.Core.Bool.{Bool, cond}
+use Prim.Native.Nat.{ℕ, _/_, _%_, _^_}
+use mathlib.Core.Bool.{cond}
 use mathlib.Core.List.{List, [], _∷_, _++_}
 use lib.Dec.{eqb}
-use Rattle.words.specs.Bytes.{u32At}
-use Rattle.lines.specs.declared.Row.{Row}
+use Rattle.records.specs.declared.SeatRecord.{SeatRecord}
+use Rattle.records.specs.Record.{isUnplaced}
 use Rattle.lines.specs.Text.{decimal, hex}
-
--- the nine numbers of record i
-unfoldable pub rowAt : List ℕ → ℕ → Row
-rowAt s i =
-    record {
-      polygon = u32At s (36 * i);
-      x = u32At s (36 * i + 4);
-      y = u32At s (36 * i + 8);
-      kind = u32At s (36 * i + 12);
-      height = u32At s (36 * i + 16);
-      step = u32At s (36 * i + 20);
-      sample = u32At s (36 * i + 24);
-      tried = u32At s (36 * i + 28);
-      candidates = u32At s (36 * i + 32);
-    }
 
 -- a space before a field
 abbrev pub field : List ℕ → List ℕ
@@ -44,7 +29,7 @@ refusedWord = 114 ∷ 101 ∷ 102 ∷ 117 ∷ 115 ∷ 101 ∷ 100 ∷ []
 abbrev pub heightField : ℕ → ℕ → List ℕ
 heightField kind bits = cond (eqb kind 0) (45 ∷ []) (hex bits)
 
-unfoldable pub placedFields : Row → List ℕ
+unfoldable pub placedFields : SeatRecord → List ℕ
 placedFields r =
     field placedWord
     ++ (field (decimal (r .polygon / 2 ^ 24))
@@ -54,14 +39,11 @@ placedFields r =
     ++ (field (heightField (r .kind) (r .height))
     ++ (field (decimal (r .step)) ++ (field (decimal (r .sample)) ++ (field (decimal (r .tried)) ++ field (decimal (r .candidates))))))))))
 
-unfoldable pub noneFields : Row → List ℕ
+unfoldable pub noneFields : SeatRecord → List ℕ
 noneFields r = field noneWord ++ field (decimal (r .tried))
 
-abbrev pub isUnplaced : Row → Bool
-isUnplaced r = eqb (r .polygon) 0xFFFF_FFFF
-
 -- the line of seat i, with its end
-unfoldable pub seatLine : ℕ → Row → List ℕ
+unfoldable pub seatLine : ℕ → SeatRecord → List ℕ
 seatLine i r = decimal i ++ (cond (isUnplaced r) (noneFields r) (placedFields r) ++ (10 ∷ []))
 
 unfoldable pub endLine : ℕ → ℕ → List ℕ

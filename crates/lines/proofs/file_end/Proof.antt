@@ -1,6 +1,6 @@
 -- `file_end` meets its contract.
 use borrow.Author.Needs.{needs}
-use Rattle.lines.proofs.InputParts.{has-length, has-parts}
+use Rattle.lines.proofs.Question21.{has-length, has-parts}
 use Rattle.lines.proofs.file_end.Statement.{statement}
 use Rattle.lines.proofs.file_end.Tie as tie
 

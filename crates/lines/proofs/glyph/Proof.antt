@@ -1,6 +1,6 @@
 -- `glyph` meets its contract.
 use borrow.Author.Needs.{needs}
-use Rattle.lines.proofs.Ways.{glyphs}
+use Rattle.lines.proofs.Digits.{glyphs}
 use Rattle.lines.proofs.glyph.Statement.{statement}
 use Rattle.lines.proofs.glyph.Tie as tie
 

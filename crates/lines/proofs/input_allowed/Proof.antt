@@ -1,6 +1,6 @@
 -- `input_allowed` meets its contract.
 use borrow.Author.Needs.{needs}
-use Rattle.lines.proofs.Ways.{inputs}
+use Rattle.lines.proofs.Question21.{inputs}
 use Rattle.lines.proofs.input_allowed.Statement.{statement}
 use Rattle.lines.proofs.input_allowed.Tie as tie
 

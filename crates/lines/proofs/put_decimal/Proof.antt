@@ -1,68 +1,34 @@
--- `put_decimal` meets its contract. The loop's invariant: what the whole number writes is what the digits that are left write.
-use Rattle.lines.specs.Text.{decimal}
-use Rattle.lines.proofs.Digits.{figure}
+-- `put_decimal` meets its contract.
 use borrow.Author.Needs.{needs}
-use Rattle.lines.proofs.Backward.{Back, backward}
+use Rattle.lines.proofs.Digits.{decimals}
 use Rattle.lines.proofs.put_decimal.Statement.{statement}
 use Rattle.lines.proofs.put_decimal.Tie as tie
 
-abbrev Inv-digits : tie.InvT-digits
-Inv-digits text₀ at n count left₀ i₀ text left i = Back figure 10 (decimal n) text₀ at text left i
+decimal-requires : tie.Need-decimal-requires
+decimal-requires c κs = search (decimals, needs)
 
-abbrev μ-digits : tie.MeasureT-digits
-μ-digits text₀ at n count left₀ i₀ text left i = i
+array-share-prefix-digits : tie.Need-array-share-prefix-digits
+array-share-prefix-digits c = search (decimals, needs)
 
-digits-of-requires : tie.Need-digits-of-requires Inv-digits μ-digits
-digits-of-requires c κs = search (backward, needs)
+slice-aggregate-put-bytes : tie.Need-slice-aggregate-put-bytes
+slice-aggregate-put-bytes c = search (decimals, needs)
 
-digits-holds : tie.Need-digits-holds Inv-digits μ-digits
-digits-holds c = search (backward, needs)
+put-bytes-requires : tie.Need-put-bytes-requires
+put-bytes-requires c κs = search (decimals, needs)
 
-sub-i : tie.Need-sub-i Inv-digits μ-digits
-sub-i c = search (backward, needs)
+same-length : tie.Need-same-length
+same-length c = search (decimals, needs)
 
-add-text : tie.Need-add-text Inv-digits μ-digits
-add-text c = search (backward, needs)
-
-cast-text : tie.Need-cast-text Inv-digits μ-digits
-cast-text c = search (backward, needs)
-
-add-text-2 : tie.Need-add-text-2 Inv-digits μ-digits
-add-text-2 c = search (backward, needs)
-
-slice-write-text : tie.Need-slice-write-text Inv-digits μ-digits
-slice-write-text c = search (backward, needs)
-
-digits-less : tie.Need-digits-less Inv-digits μ-digits
-digits-less c = search (backward, needs)
-
-digits-again : tie.Need-digits-again Inv-digits μ-digits
-digits-again c = search (backward, needs)
-
-add-result : tie.Need-add-result Inv-digits μ-digits
-add-result c = search (backward, needs)
-
-same-length : tie.Need-same-length Inv-digits μ-digits
-same-length c = search (backward, needs)
-
-returns : tie.Need-returns Inv-digits μ-digits
-returns c = search (backward, needs)
+returns : tie.Need-returns
+returns c = search (decimals, needs)
 
 pub put-decimal-spec : {M : Type 1} → statement M
 put-decimal-spec =
     tie.close
     (tie.spec
-    Inv-digits
-    μ-digits
-    digits-of-requires
-    digits-holds
-    sub-i
-    add-text
-    cast-text
-    add-text-2
-    slice-write-text
-    digits-less
-    digits-again
-    add-result
+    decimal-requires
+    array-share-prefix-digits
+    slice-aggregate-put-bytes
+    put-bytes-requires
     same-length
     returns)

@@ -4,6 +4,9 @@ use Rattle.lines.proofs.Parts.{places}
 use Rattle.lines.proofs.put_fields.Statement.{statement}
 use Rattle.lines.proofs.put_fields.Tie as tie
 
+unplaced-requires : tie.Need-unplaced-requires
+unplaced-requires c κs = search (places, needs)
+
 put-none-requires : tie.Need-put-none-requires
 put-none-requires c κs = search (places, needs)
 
@@ -25,4 +28,11 @@ returns-2 c = search (places, needs)
 pub put-fields-spec : {M : Type 1} → statement M
 put-fields-spec =
     tie.close
-    (tie.spec put-none-requires put-placed-requires same-length returns same-length-2 returns-2)
+    (tie.spec
+    unplaced-requires
+    put-none-requires
+    put-placed-requires
+    same-length
+    returns
+    same-length-2
+    returns-2)

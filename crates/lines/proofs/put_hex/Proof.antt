@@ -1,12 +1,11 @@
 -- `put_hex` meets its contract. The loop's invariant: what the whole number writes is what the digits that are left write.
-use Rattle.lines.specs.Text.{glyph, hex}
 use borrow.Author.Needs.{needs}
-use Rattle.lines.proofs.Backward.{Back, backward}
+use Rattle.lines.proofs.Digits.{Back, backward}
 use Rattle.lines.proofs.put_hex.Statement.{statement}
 use Rattle.lines.proofs.put_hex.Tie as tie
 
 abbrev Inv-digits : tie.InvT-digits
-Inv-digits text₀ at n left₀ i₀ text left i = Back glyph 16 (hex n) text₀ at text left i
+Inv-digits text₀ at n left₀ i₀ text left i = Back n text₀ at text left i
 
 abbrev μ-digits : tie.MeasureT-digits
 μ-digits text₀ at n left₀ i₀ text left i = i

@@ -1,4 +1,4 @@
--- `put_placed` meets its contract. The two parts of its clause are searched for apart: together they take too many steps.
+-- `put_placed` meets its contract.
 use borrow.Author.Needs.{needs}
 use Rattle.lines.proofs.Parts.{places}
 use Rattle.lines.proofs.put_placed.Statement.{statement}
@@ -23,7 +23,7 @@ same-length : tie.Need-same-length
 same-length c = search (places, needs)
 
 returns : tie.Need-returns
-returns c = (search (places, needs), search needs)
+returns c = search (places, needs)
 
 pub put-placed-spec : {M : Type 1} → statement M
 put-placed-spec =

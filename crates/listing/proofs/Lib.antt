@@ -1,0 +1,4 @@
+pub mod Records
+pub mod Texts
+pub mod Printing
+pub mod Examples
