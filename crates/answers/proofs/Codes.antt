@@ -1,13 +1,8 @@
 -- An answer as one i64: a count that fits is its own bits, and minus a u32 fits.
-use Prim.Native.Nat.{ℕ, zero, suc, _*_, _<_, _/_, _^_, _≤_}
-use mathlib.Core.Bool.{Bool, true, false}
-use borrow.Author.Tests.{leb-true}
-use lib.Dec.{leb}
+use Prim.Native.Nat.{ℕ, zero, suc, _<_, _^_}
 use native.Mathlib.Omega.{arith}
-use mathlib.Core.Path.{_≡_, refl, sym, ap, _∙_, subst}
-use mathlib.Core.List.{List}
+use mathlib.Core.Path.{_≡_, sym, ap, _∙_, subst}
 use lib.IntN.{ℤ, pos, negℤ, _-ℤ_, +ℤ-idl}
-use lib.ListN.{length}
 use mir.Syntax.{w64}
 use mir.Val.{SFits, toZ, ofZ}
 use mir.ValLaws.{toZ-ofZ, toZ-pos}

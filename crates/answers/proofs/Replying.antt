@@ -3,7 +3,7 @@ use Prim.Native.Nat.{ℕ, _+_, _*_, _^_, _≤_, _<_}
 use native.Mathlib.Omega.{arith}
 use mathlib.Core.Path.{_≡_, refl, sym, ap, _∙_, subst}
 use mathlib.Core.Bool.{Bool, true, false, not}
-use mathlib.Core.List.{List, [], _∷_, _++_}
+use mathlib.Core.List.{List, [], _++_}
 use lib.ListN.{length, drop, length-append, length-drop}
 use lib.IntN.{ℤ}
 use Rattle.words.specs.Bytes.{joined}
@@ -11,7 +11,7 @@ use Rattle.answers.specs.declared.Check.{Check}
 use Rattle.answers.specs.declared.Check.the-variants.{Passed, No}
 use Rattle.answers.specs.declared.Answer.{Answer}
 use Rattle.answers.specs.declared.Answer.the-variants.{Refused, Wrote}
-use Rattle.answers.specs.Checks.{ask, after}
+use Rattle.answers.specs.Checks.{after}
 use Rattle.answers.specs.Questions.{question20}
 use Rattle.answers.specs.Replies.{Reply, replyOf, replyCheck, answerFor, outputFor, answerTo, outputTo, Replied, codeOf, AnswerFits, RepliedCode}
 use Rattle.answers.proofs.Asking.{said-no, said-yes, asked-yes, both-passed, q20-no, q20-yes, q20-short, q20-fits}

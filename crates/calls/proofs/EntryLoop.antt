@@ -1,10 +1,9 @@
 -- A candidate's entry, and the loop over the candidates of a step that writes them: what it says at its start, in a turn and at its end.
 use Prim.Native.Nat.{ℕ, _+_, _*_, _^_, _≤_, _<_}
-use mathlib.Core.Path.{_≡_, refl, sym, ap, ap₂, _∙_, subst}
+use mathlib.Core.Path.{_≡_, refl, ap, _∙_, subst}
 use mathlib.Core.Bool.{Bool, true, false, not}
-use mathlib.Core.List.{List, [], _∷_, _++_}
+use mathlib.Core.List.{List, [], _∷_}
 use native.Mathlib.Omega.{arith}
-use native.Mathlib.Nat.{mul-suc}
 use mir.Syntax.{w64}
 use mir.Val.{Fits}
 use lib.IntN.{ℤ}

@@ -1,8 +1,8 @@
 -- The height call: its questions in their order, the height that it asks for, and its reply.
 use Prim.Native.Nat.{ℕ, _^_, _≤_, _<_}
 use mathlib.Core.Path.{_≡_, sym, ap, _∙_, subst}
-use mathlib.Core.Bool.{Bool, true, false}
-use mathlib.Core.List.{List, [], _∷_, _++_}
+use mathlib.Core.Bool.{true, false}
+use mathlib.Core.List.{List, [], _++_}
 use native.Mathlib.Omega.{arith}
 use lib.Dec.{ltb}
 use lib.ListN.{length, drop}
@@ -31,7 +31,7 @@ use Rattle.search.proofs.HeightBound.{height-within}
 use Rattle.walking.proofs.ShownLaws.{deck-is}
 use Rattle.placing.proofs.SeatRecords.{height-number}
 use Rattle.calls.specs.Closest.{question16}
-use Rattle.calls.specs.HeightCall.{heightCall, heightEntry, question17Height, question18, heightCheck, heightReply}
+use Rattle.calls.specs.HeightCall.{heightCall, heightEntry, question17Height, question18, heightCheck}
 use Rattle.calls.proofs.Queries.{size-of-place}
 
 -- ---- `height_check`

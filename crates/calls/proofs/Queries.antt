@@ -10,7 +10,7 @@ use Rattle.ring.specs.Table.{directions}
 use Rattle.words.proofs.TableRows.{both}
 use Rattle.words.proofs.Collecting.{holds}
 use Rattle.answers.specs.declared.Check.{Check}
-use Rattle.answers.specs.declared.Check.the-variants.{Passed, No}
+use Rattle.answers.specs.declared.Check.the-variants.{Passed}
 use Rattle.answers.specs.Checks.{ask, after}
 use Rattle.answers.specs.Questions.{question14, question17}
 use Rattle.answers.proofs.Asking.{asking, asked-yes, both-passed, blocked-32}

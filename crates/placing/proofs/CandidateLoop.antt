@@ -1,7 +1,7 @@
 -- The loop over the candidates of a step, `take_step`: what it says at its start, in a turn and at its end.
 use Prim.Native.Nat.{ℕ, suc, _+_, _*_, _≤_, _<_, _^_}
-use mathlib.Core.Path.{_≡_, refl, sym, ap, _∙_, subst}
-use mathlib.Core.List.{List, [], _∷_}
+use mathlib.Core.Path.{_≡_, sym, ap, subst}
+use mathlib.Core.List.{List}
 use native.Mathlib.Omega.{arith}
 use native.Mathlib.Nat.{add-assoc}
 use mir.Syntax.{w64}
@@ -23,7 +23,7 @@ use Rattle.walking.specs.Walk.{candidatesAfter, triedAfter, leftOf, leftTried, 
 use Rattle.walking.proofs.ShownLaws.{candidate-within, few-tried, few-candidates}
 use Rattle.placing.specs.declared.Best.the-variants.{NoneYet}
 use Rattle.placing.specs.declared.Tally.{Tally}
-use Rattle.placing.specs.Tally.{chooseWith, bestFrom, startOf, takeWith, stepTally, BestWithin, TallyWithin}
+use Rattle.placing.specs.Tally.{bestFrom, startOf, takeWith, stepTally, BestWithin, TallyWithin}
 use Rattle.placing.proofs.Choosing.{chosen-within}
 
 -- the candidates before those that are left are taken in

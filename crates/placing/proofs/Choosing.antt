@@ -1,6 +1,6 @@
 -- The choice among candidates: `choose` and `take`, and what the candidates of a step come to.
-use Prim.Native.Nat.{ℕ, suc, _+_}
-use mathlib.Core.Path.{_≡_, refl, sym, ap, _∙_}
+use Prim.Native.Nat.{ℕ, _+_}
+use mathlib.Core.Path.{_≡_, refl, sym, _∙_}
 use mathlib.Core.Bool.{Bool, true, false, cond}
 use mathlib.Core.List.{List, [], _∷_}
 use Rattle.geometry.specs.declared.Vec2.{Vec2}

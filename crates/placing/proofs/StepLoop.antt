@@ -17,7 +17,6 @@ use Rattle.survey.specs.Record.{recordAtPlace}
 use Rattle.survey.specs.Search.{candidates, triedIn, triedBefore, bestOf, firstStep, seatRecord}
 use Rattle.survey.proofs.Loops.{first-step-yes, first-step-no, first-step-none}
 use Rattle.walking.specs.Sees.{seenBy, CandidateWithin}
-use Rattle.placing.specs.declared.Best.{Best}
 use Rattle.placing.specs.declared.Best.the-variants.{NoneYet, Chosen}
 use Rattle.placing.specs.declared.Tally.{Tally}
 use Rattle.placing.specs.Tally.{bestFrom, stepTally, BestWithin, TallyWithin, CountsWithin}

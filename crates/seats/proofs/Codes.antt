@@ -1,7 +1,6 @@
 -- Each call's answer over C: how many entries it wrote fits an i64, since each has more than two bytes.
-use Prim.Native.Nat.{ℕ, _*_, _^_, _≤_, _<_}
+use Prim.Native.Nat.{ℕ, _^_, _<_}
 use native.Mathlib.Omega.{arith}
-use mathlib.Core.Path.{_≡_}
 use mathlib.Core.List.{List}
 use lib.ListN.{length}
 use Rattle.geometry.specs.declared.Vec2.{Vec2}

@@ -1,11 +1,11 @@
 -- The loop over the seats, `put_records`, and the run's reply.
 use Prim.Native.Nat.{ℕ, _+_, _*_, _≤_, _<_}
 use native.Mathlib.Omega.{arith}
-use mathlib.Core.Path.{_≡_, refl, sym, ap, _∙_}
+use mathlib.Core.Path.{_≡_, refl, sym, _∙_}
 use mathlib.Core.Bool.{Bool, true, false, not}
-use mathlib.Core.List.{List, _++_}
+use mathlib.Core.List.{List}
 use lib.IntN.{ℤ}
-use lib.ListN.{length, getD, drop}
+use lib.ListN.{length}
 use Rattle.geometry.specs.Bounds.{PointWithin}
 use Rattle.ring.specs.Table.{directions}
 use Rattle.words.specs.Bytes.{splice}
@@ -15,7 +15,7 @@ use Rattle.answers.specs.declared.Check.{Check}
 use Rattle.answers.specs.declared.Check.the-variants.{Passed}
 use Rattle.answers.specs.Questions.{question20}
 use Rattle.answers.specs.Replies.{Replied}
-use Rattle.answers.proofs.Asking.{said-yes, said-passed, q20-fits}
+use Rattle.answers.proofs.Asking.{said-yes, q20-fits}
 use Rattle.answers.proofs.Replying.{replied-refused, replied-short, replied-written, room-short, room-fits}
 use Rattle.records.specs.declared.SeatRecord.{SeatRecord}
 use Rattle.records.specs.Record.{recordSize, recordBytes}
@@ -24,7 +24,7 @@ use Rattle.ship.specs.Decode.{decode}
 use Rattle.survey.specs.declared.Seat.{Seat}
 use Rattle.survey.specs.Search.{seatRecord}
 use Rattle.walking.specs.Sees.{seenBy, SearchReady}
-use Rattle.seats.specs.SeatFile.{seatSize, seatAt, seatCount, question16Seat}
+use Rattle.seats.specs.SeatFile.{seatAt, seatCount, question16Seat}
 use Rattle.seats.specs.Run.{runCheck, runRecords, runReply, RecordsReady, RecordsPut}
 use Rattle.seats.specs.Survey.{Surveyed}
 use Rattle.seats.proofs.SeatAsks.{RunPassed, run-yes, run-blocked, seat-yes16, seat-inside}

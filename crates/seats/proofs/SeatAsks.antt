@@ -1,19 +1,19 @@
 -- The questions of a seat, of a list of seats and of a run: from what the calls returned to the answer, and from a passed run back to each yes.
-use Prim.Native.Nat.{ℕ, _+_, _*_, _/_, _%_, _≤_, _<_}
+use Prim.Native.Nat.{ℕ, _+_, _*_, _%_, _≤_, _<_}
 use native.Mathlib.Nat.{div-mul-le-self}
 use native.Mathlib.Omega.{arith}
-use mathlib.Core.Path.{_≡_, sym, _∙_}
-use mathlib.Core.Bool.{Bool, true, false, not, _&&_}
+use mathlib.Core.Path.{_≡_}
+use mathlib.Core.Bool.{Bool, true, false, not}
 use mathlib.Core.List.{List}
 use borrow.Author.Tests.{eq-eqb, ne-eqb}
 use lib.Dec.{eqb}
 use lib.ListN.{length}
 use Rattle.words.proofs.TableRows.{both}
 use Rattle.answers.specs.declared.Check.{Check}
-use Rattle.answers.specs.declared.Check.the-variants.{Passed, No}
+use Rattle.answers.specs.declared.Check.the-variants.{Passed}
 use Rattle.answers.specs.Checks.{ask, after, checkEach}
 use Rattle.answers.specs.Questions.{question14, question17}
-use Rattle.answers.proofs.Asking.{asking, said-no, said-yes, asked-yes, both-passed, each-passed, Checked, checking, blocked-32}
+use Rattle.answers.proofs.Asking.{asking, said-no, said-yes, asked-yes, both-passed, each-passed, checking, blocked-32}
 use Rattle.ship.specs.Layout.{decksIn}
 use Rattle.ship.specs.Questions.{firstNo}
 use Rattle.seats.specs.SeatFile.{seatSize, seatCount, deckWord, kindWord, heightWord, kindAllowed, question14Seats, question15, question16Seat, seatCheck}

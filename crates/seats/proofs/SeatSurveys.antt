@@ -1,11 +1,10 @@
 -- Every distance from a wish to a candidate's height is a number, so that the surveyor's statement holds of each seat's record, and of no other.
-use Prim.Native.Nat.{ℕ, _*_, _^_, _≤_, _<_}
+use Prim.Native.Nat.{ℕ, _^_, _<_}
 use native.Mathlib.Omega.{arith}
 use mathlib.Core.Path.{_≡_, refl}
 use mathlib.Core.Bool.{Bool, true, false, not, cond}
 use mathlib.Core.List.{List}
 use lib.Dec.{T, eqb}
-use lib.ListN.{length}
 use lib.Ieee.{Float, binary32, neg, sub, lt, isNan}
 use Rattle.geometry.specs.declared.Height.{Height}
 use Rattle.geometry.specs.declared.Height.the-variants.{Known, None}
@@ -15,7 +14,7 @@ use Rattle.geometry.proofs.Bounds.{sub-within, neg-within, not-nan, power}
 use Rattle.answers.specs.declared.Check.the-variants.{Passed}
 use Rattle.records.specs.declared.SeatRecord.{SeatRecord}
 use Rattle.hits.specs.declared.Candidate.{Candidate}
-use Rattle.ship.specs.Layout.{decksIn, blocksAt}
+use Rattle.ship.specs.Layout.{decksIn}
 use Rattle.ship.specs.Decode.{decode}
 use Rattle.ship.specs.Questions.{firstNo}
 use Rattle.ship.proofs.Facts.{decks-range}

@@ -1,5 +1,5 @@
 -- The surveyor's theorem, of bytes: every seat run that is not refused meets the surveyor's statement, which leaves nothing free.
-use Prim.Native.Nat.{ℕ, zero, suc, _+_, _*_, _≤_, _<_}
+use Prim.Native.Nat.{ℕ, zero, suc, _+_, _≤_, _<_}
 use native.Mathlib.Omega.{arith}
 use mathlib.Core.Path.{_≡_, refl, sym, ap, ap₂, _∙_, subst⁻¹}
 use mathlib.Core.List.{List, [], _∷_}
@@ -9,11 +9,10 @@ use Rattle.answers.specs.declared.Answer.{Answer}
 use Rattle.answers.specs.declared.Answer.the-variants.{Wrote}
 use Rattle.answers.specs.declared.Check.{Check}
 use Rattle.answers.specs.declared.Check.the-variants.{Passed, No}
-use Rattle.answers.specs.Checks.{checkEach}
 use Rattle.answers.specs.Replies.{replyCheck, answerFor, answerTo, outputTo, Replied}
 use Rattle.answers.proofs.Replying.{check-passed, passed-check, answer-passed, output-length}
 use Rattle.records.specs.declared.SeatRecord.{SeatRecord}
-use Rattle.records.specs.Record.{recordSize, recordBytes}
+use Rattle.records.specs.Record.{recordBytes}
 use Rattle.ship.specs.Layout.{decksIn, stepsIn}
 use Rattle.ship.specs.Model.{Ship, withSteps}
 use Rattle.ship.specs.Decode.{decode, withStepsBytes}
@@ -26,8 +25,8 @@ use Rattle.survey.specs.Search.{seatRecord}
 use Rattle.survey.specs.Survey.{SeatSurvey}
 use Rattle.survey.proofs.Steps.{steady}
 use Rattle.walking.specs.Sees.{sampleOn, placeOf, shownFrom, view}
-use Rattle.seats.specs.SeatFile.{seatAt, seatCount, seatsOf, seatCheck}
-use Rattle.seats.specs.Run.{runCheck, runReply}
+use Rattle.seats.specs.SeatFile.{seatAt, seatCount, seatsOf}
+use Rattle.seats.specs.Run.{runReply}
 use Rattle.seats.specs.Survey.{Each, Survey, Kept, Surveyed, SurveyedCode}
 use Rattle.seats.proofs.SeatReads.{seat-floats}
 use Rattle.seats.proofs.SeatAsks.{RunPassed, run-yes, run-passed, seat-yes16}

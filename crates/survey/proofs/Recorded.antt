@@ -1,5 +1,5 @@
 -- What the record of a seat tells of its search: whether anything was found, in which step, how much, and the first where there is no wish.
-use Prim.Native.Nat.{ℕ, suc, _+_, _*_, _^_, _≤_, _<_}
+use Prim.Native.Nat.{ℕ, _+_, _*_, _^_, _≤_, _<_}
 use mathlib.Core.Path.{_≡_, refl, sym, ap, _∙_, subst}
 use mathlib.Core.Bool.{Bool, true, false, cond}
 use mathlib.Core.List.{List, [], _∷_}
@@ -7,7 +7,7 @@ use mathlib.Core.Logic.{inl, inr, ⊎-elim}
 use native.Mathlib.Omega.{arith}
 use lib.Ieee.{binary32, toBits}
 use lib.ListN.{length, take}
-use borrow.Author.Tests.{eqb-true, ne-eqb}
+use borrow.Author.Tests.{eqb-true}
 use Rattle.words.specs.Bytes.{allOnes}
 use Rattle.words.proofs.Collecting.{In}
 use Rattle.records.specs.declared.SeatRecord.{SeatRecord}

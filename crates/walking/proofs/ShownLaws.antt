@@ -1,6 +1,6 @@
 -- What the decks of a passed file show, as the readers read it, and how large it is.
-use Prim.Native.Nat.{ℕ, _+_, _-_, _*_, _<_, _≤_, _^_}
-use mathlib.Core.Path.{_≡_, refl, sym, ap, _∙_, subst}
+use Prim.Native.Nat.{ℕ, _+_, _-_, _*_, _<_, _≤_}
+use mathlib.Core.Path.{_≡_, refl, sym, ap, _∙_}
 use mathlib.Core.Bool.{Bool, true, false}
 use mathlib.Core.List.{List}
 use native.Mathlib.Omega.{arith}
@@ -31,7 +31,7 @@ use Rattle.ship.proofs.ModelFacts.{polygons-length, offset-within, decks-length
 use Rattle.survey.specs.declared.Seat.{Seat}
 use Rattle.survey.specs.Search.{turn, candidates, triedIn}
 use Rattle.survey.proofs.Loops.{candidates-bound, tried-in-bound}
-use Rattle.search.specs.OnDeck.{passesAt, deckTurn, nextHit, heightOn}
+use Rattle.search.specs.OnDeck.{deckTurn, nextHit, heightOn}
 use Rattle.search.proofs.HeightBound.{height-within}
 use Rattle.walking.specs.Sees.{sampleOn, placeOf, shownFrom, shownBy, seenBy, CandidateIn, CandidateWithin}
 use Rattle.walking.specs.Walk.{passingAfter}

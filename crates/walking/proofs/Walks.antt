@@ -2,13 +2,11 @@
 use Prim.Native.Nat.{ℕ, _+_, _*_, _-_, _≤_, _<_, _^_}
 use mathlib.Core.Path.{_≡_, refl, sym, ap, _∙_, subst}
 use mathlib.Core.Bool.{Bool, true, false}
-use mathlib.Core.List.{List, [], _∷_, _++_}
+use mathlib.Core.List.{List, _++_}
 use native.Mathlib.Omega.{arith}
 use native.Mathlib.Nat.{add-assoc, add-zero}
 use mir.Syntax.{w64}
 use mir.Val.{Fits}
-use lib.ListN.{length}
-use lib.IntN.{ℤ}
 use Rattle.words.proofs.Collecting.{collect-yes, collect-no, collect-none, sum-yes, sum-no, sum-none}
 use Rattle.answers.specs.declared.Check.the-variants.{Passed}
 use Rattle.hits.specs.declared.Candidate.{Candidate}
@@ -16,19 +14,17 @@ use Rattle.hits.specs.declared.Hit.{Hit}
 use Rattle.hits.specs.declared.Hit.the-variants.{At, Missed}
 use Rattle.hits.specs.Candidates.{candidate}
 use Rattle.hits.specs.Hits.{triedOf}
-use Rattle.ship.specs.Layout.{decksIn, blocksAt}
-use Rattle.ship.specs.Decode.{decode}
+use Rattle.ship.specs.Layout.{decksIn}
 use Rattle.ship.specs.Questions.{firstNo}
 use Rattle.ship.proofs.Facts.{decks-range}
 use Rattle.ship.proofs.ModelFacts.{decks-length}
 use Rattle.survey.specs.declared.Seat.{Seat}
 use Rattle.survey.specs.Wishes.{isOpen}
-use Rattle.survey.specs.View.{View}
-use Rattle.survey.specs.Search.{turn, turnGives, turnTried, candidatesFrom, candidates, triedFrom, triedIn}
+use Rattle.survey.specs.Search.{turn, turnGives, turnTried, candidatesFrom, triedFrom}
 use Rattle.survey.proofs.Loops.{passing-missed, passing-at, hit-polygon, hit-sample, gives-hit, turn-tried-bound}
 use Rattle.walking.specs.declared.Next.{Next}
 use Rattle.walking.specs.declared.Next.the-variants.{Reached, Ended}
-use Rattle.walking.specs.Sees.{shownBy, seenBy, FileReady, SearchReady, TurnIn, CandidateIn}
+use Rattle.walking.specs.Sees.{shownBy, seenBy, TurnIn, CandidateIn}
 use Rattle.walking.specs.Walk.{passingAfter, candidatesAfter, triedAfter, Walked, WalkedFrom, WalkedStep, WalkedAfter}
 use Rattle.walking.proofs.ShownLaws.{polygons-shown}
 
