@@ -19,7 +19,7 @@ use Rattle.answers.proofs.Replying.{replied-refused, replied-short, replied-wri
 use Rattle.records.specs.declared.SeatRecord.{SeatRecord}
 use Rattle.records.specs.Record.{isUnplaced}
 use Rattle.hits.specs.declared.Candidate.{Candidate}
-use Rattle.ship.specs.Blocks.{stepsIn}
+use Rattle.ship.specs.Layout.{stepsIn}
 use Rattle.ship.specs.Decode.{decode}
 use Rattle.ship.specs.Packed.{packedOf}
 use Rattle.ship.specs.Questions.{firstNo}

@@ -20,7 +20,7 @@ use Rattle.answers.specs.Checks.{ask, after}
 use Rattle.answers.proofs.Asking.{asking, asked-yes, both-passed}
 use Rattle.answers.proofs.Replying.{replied-refused, replied-short, replied-written, replied-none}
 use Rattle.ship.specs.declared.Blocks.{Blocks}
-use Rattle.ship.specs.Blocks.{decksIn, blocksAt}
+use Rattle.ship.specs.Layout.{decksIn, blocksAt}
 use Rattle.ship.specs.Decode.{deckAt, decode}
 use Rattle.ship.specs.Model.{Deck, deckOf}
 use Rattle.ship.specs.Packed.{packedDeck, packedPolygon}

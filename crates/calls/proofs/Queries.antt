@@ -14,7 +14,7 @@ use Rattle.answers.specs.declared.Check.the-variants.{Passed, No}
 use Rattle.answers.specs.Checks.{ask, after}
 use Rattle.answers.specs.Questions.{question14, question17}
 use Rattle.answers.proofs.Asking.{asking, asked-yes, both-passed, blocked-32}
-use Rattle.ship.specs.Blocks.{decksIn}
+use Rattle.ship.specs.Layout.{decksIn}
 use Rattle.ship.specs.Floats.{inSize}
 use Rattle.ship.specs.Questions.{firstNo}
 use Rattle.ship.proofs.FloatBits.{size-within}

@@ -15,7 +15,7 @@ use Rattle.answers.specs.Questions.{question14, question17}
 use Rattle.answers.specs.declared.Answer.{Answer}
 use Rattle.answers.specs.Replies.{Reply, replyOf, Replied, RepliedCode}
 use Rattle.hits.specs.declared.Candidate.{Candidate}
-use Rattle.ship.specs.Blocks.{decksIn, stepsIn}
+use Rattle.ship.specs.Layout.{decksIn, stepsIn}
 use Rattle.ship.specs.Floats.{inSize}
 use Rattle.ship.specs.Packed.{packedOf}
 use Rattle.ship.specs.Questions.{firstNo}

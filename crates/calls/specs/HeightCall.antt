@@ -14,7 +14,7 @@ use Rattle.answers.specs.declared.Check.{Check}
 use Rattle.answers.specs.declared.Check.the-variants.{Passed}
 use Rattle.answers.specs.Checks.{ask, after}
 use Rattle.answers.specs.Replies.{Reply, replyOf, RepliedCode}
-use Rattle.ship.specs.Blocks.{decksIn}
+use Rattle.ship.specs.Layout.{decksIn}
 use Rattle.ship.specs.Decode.{decode}
 use Rattle.ship.specs.Model.{deckOf}
 use Rattle.ship.specs.Packed.{packedDeck, packedPolygon}

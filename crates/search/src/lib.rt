@@ -25,7 +25,8 @@ fn corner_point(file: &[u8], b: Blocks, k: usize, j: usize) -> Vec2
 
 // Its height, on a deck that has heights.
 fn corner_height(file: &[u8], b: Blocks, k: usize, j: usize) -> f32
-    requires { ⌜ DeckOfPassed (now file) b × ((k < b .polygons) × ((j < length (cornersOf (deckAt (now file) b) k)) × (0 < b .heights))) ⌝ }
+    requires { ⌜ DeckOfPassed (now file) b × ((k < b .polygons)
+        × ((j < length (cornersOf (deckAt (now file) b) k)) × (0 < b .heights))) ⌝ }
     ensures { λ r. ⌜ r ≡ heightOf (deckAt (now (file .entry)) b) (getD (cornersOf (deckAt (now (file .entry)) b) k) j 0) ⌝ }
 {
     decks::height(file, b, decks::corner(file, b, k, j))

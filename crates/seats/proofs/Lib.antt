@@ -5,3 +5,4 @@ pub mod RunRecords
 pub mod SurveyTheorem
 pub mod RunLoop
 pub mod Codes
+pub mod Examples

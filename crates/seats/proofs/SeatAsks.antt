@@ -14,7 +14,7 @@ use Rattle.answers.specs.declared.Check.the-variants.{Passed, No}
 use Rattle.answers.specs.Checks.{ask, after, checkEach}
 use Rattle.answers.specs.Questions.{question14, question17}
 use Rattle.answers.proofs.Asking.{asking, said-no, said-yes, asked-yes, both-passed, each-passed, Checked, checking, blocked-32}
-use Rattle.ship.specs.Blocks.{decksIn}
+use Rattle.ship.specs.Layout.{decksIn}
 use Rattle.ship.specs.Questions.{firstNo}
 use Rattle.seats.specs.SeatFile.{seatSize, seatCount, deckWord, kindWord, heightWord, kindAllowed, question14Seats, question15, question16Seat, seatCheck}
 use Rattle.seats.specs.Run.{runCheck}

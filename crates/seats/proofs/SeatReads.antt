@@ -29,26 +29,24 @@ module _ (kind height : ℕ) where
 
 pub ruleset kinds = (kind-zero, kind-other)
 
--- ---- `floats_in_size`; r, q and t are what `in_size` said of the three, whose bits are n, m and h
-module _ (s : List ℕ) (i : ℕ) {n : ℕ} {r : Bool} (hn : n ≡ seatWord s i 0) (hr : r ≡ inSize (ofBits binary32 n)) where
-  first : r ≡ inSize (seatFloat s i 0)
-  first = rw hn at hr
+-- ---- `float_in_size`
+pub float-asked : (s : List ℕ) (i k : ℕ) {n : ℕ} {r : Bool} → n ≡ seatWord s i k → r ≡ inSize (ofBits binary32 n) → r ≡ inSize (seatFloat s i k)
+float-asked s i k e f = rw e at f
 
+-- ---- `floats_in_size`
+module _ (s : List ℕ) (i : ℕ) {r : Bool} (first : r ≡ inSize (seatFloat s i 0)) where
   pub x-no : not r ≡ true → false ≡ question16Seat s i
   unfolding question16Seat
   x-no e = rw (said-no first e)
 
-  module _ (x : not r ≡ false) {m : ℕ} {q : Bool} (hm : m ≡ seatWord s i 1) (hq : q ≡ inSize (ofBits binary32 m)) where
-    second : q ≡ inSize (seatFloat s i 1)
-    second = rw hm at hq
-
-    pub y-no : not q ≡ true → false ≡ question16Seat s i
+  module _ (x : not r ≡ false) {q : Bool} (second : q ≡ inSize (seatFloat s i 1)) where
+    pub y-no : q ≡ false → q ≡ question16Seat s i
     unfolding question16Seat
-    y-no e = rw (said-yes first x, said-no second e)
+    y-no e = e ∙ rw (said-yes first x, sym second ∙ e)
 
-    pub all-three : not q ≡ false → {h : ℕ} {t : Bool} → h ≡ seatWord s i 4 → t ≡ inSize (ofBits binary32 h) → t ≡ question16Seat s i
+    pub all-three : {t : Bool} → q ≡ true → t ≡ inSize (seatFloat s i 4) → t ≡ question16Seat s i
     unfolding question16Seat
-    all-three y hh ht = (rw hh at ht) ∙ rw (said-yes first x, said-yes second y)
+    all-three e third = third ∙ rw (said-yes first x, sym second ∙ e)
 
 pub ruleset sizes = (x-no, y-no, all-three)
 

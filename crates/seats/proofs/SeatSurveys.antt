@@ -15,7 +15,7 @@ use Rattle.geometry.proofs.Bounds.{sub-within, neg-within, not-nan, power}
 use Rattle.answers.specs.declared.Check.the-variants.{Passed}
 use Rattle.records.specs.declared.SeatRecord.{SeatRecord}
 use Rattle.hits.specs.declared.Candidate.{Candidate}
-use Rattle.ship.specs.Blocks.{decksIn, blocksAt}
+use Rattle.ship.specs.Layout.{decksIn, blocksAt}
 use Rattle.ship.specs.Decode.{decode}
 use Rattle.ship.specs.Questions.{firstNo}
 use Rattle.ship.proofs.Facts.{decks-range}

@@ -14,7 +14,7 @@ use Rattle.answers.specs.Replies.{replyCheck, answerFor, answerTo, outputTo, Re
 use Rattle.answers.proofs.Replying.{check-passed, passed-check, answer-passed, output-length}
 use Rattle.records.specs.declared.SeatRecord.{SeatRecord}
 use Rattle.records.specs.Record.{recordSize, recordBytes}
-use Rattle.ship.specs.Blocks.{decksIn, stepsIn}
+use Rattle.ship.specs.Layout.{decksIn, stepsIn}
 use Rattle.ship.specs.Model.{Ship, withSteps}
 use Rattle.ship.specs.Decode.{decode, withStepsBytes}
 use Rattle.ship.specs.Questions.{firstNo}

@@ -14,7 +14,7 @@ use Rattle.records.specs.declared.SeatRecord.{SeatRecord}
 use Rattle.records.specs.Record.{recordSize, recordBytes, recordsBytes}
 use Rattle.ship.specs.Model.{Ship}
 use Rattle.ship.specs.Decode.{decode}
-use Rattle.ship.specs.Blocks.{decksIn}
+use Rattle.ship.specs.Layout.{decksIn}
 use Rattle.ship.specs.Questions.{firstNo}
 use Rattle.survey.specs.declared.Seat.{Seat}
 use Rattle.survey.specs.Search.{seatRecord}

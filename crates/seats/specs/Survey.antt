@@ -10,7 +10,7 @@ use Rattle.answers.specs.Replies.{answerTo, outputTo}
 use Rattle.records.specs.declared.SeatRecord.{SeatRecord}
 use Rattle.records.specs.Record.{recordAt, recordsIn, recordSlice}
 use Rattle.ship.specs.Model.{Ship}
-use Rattle.ship.specs.Blocks.{stepsIn}
+use Rattle.ship.specs.Layout.{stepsIn}
 use Rattle.ship.specs.Decode.{decode, withStepsBytes}
 use Rattle.survey.specs.declared.Seat.{Seat}
 use Rattle.survey.specs.Survey.{SeatSurvey}

@@ -7,6 +7,7 @@ ghost use lib.ListN.{length};
 ghost use lib.Ieee.{binary32, nanBits};
 ghost use Rattle.geometry.specs.Bounds.{PointWithin};
 ghost use Rattle.answers.specs.Checks.{checkEach};
+ghost use Rattle.ship.specs.Floats.{inSize};
 ghost use Rattle.calls.specs.Closest.{PointsCode, PointCode};
 ghost use Rattle.calls.specs.HeightCall.{HeightCode};
 ghost use Rattle.seats.specs.SeatFile.{seatSize, seatWord, seatFloat, seatAt, seatCount, kindAllowed, question16Seat, seatCheck};
@@ -68,18 +69,22 @@ fn kind_allowed(kind: u32, height: u32) -> bool
     if kind == 0 { height == 0 } else { kind == 1 }
 }
 
-// Question 16 of seat i.
+// Question 16 of one of a seat's floats, and of all three of seat i.
+fn float_in_size(seats: &[u8], i: usize, k: usize) -> bool
+    requires { ⌜ seatSize * i + 4 * k + 4 ≤ length (now seats) ⌝ }
+    ensures { λ r. ⌜ r ≡ inSize (seatFloat (now (seats .entry)) i k) ⌝ }
+{
+    ship::in_size(seat_word(seats, i, k))
+}
+
 fn floats_in_size(seats: &[u8], i: usize) -> bool
     requires { ⌜ seatSize * i + seatSize ≤ length (now seats) ⌝ }
     ensures { λ r. ⌜ r ≡ question16Seat (now (seats .entry)) i ⌝ }
 {
-    if !ship::in_size(seat_word(seats, i, 0)) {
+    if !float_in_size(seats, i, 0) {
         return false;
     }
-    if !ship::in_size(seat_word(seats, i, 1)) {
-        return false;
-    }
-    ship::in_size(seat_word(seats, i, 4))
+    float_in_size(seats, i, 1) && float_in_size(seats, i, 4)
 }
 
 // Questions 15 to 17 of seat i.

@@ -8,7 +8,7 @@
 // What is no case gives the one word `bad`, and nothing after it is read.
 ghost use Prim.Native.Nat.{_+_, _<_, _≤_};
 ghost use lib.ListN.{length};
-use calls::Answer;
+use answers::Answer;
 use geometry::Vec2;
 use libc::STDIN_FILENO;
 use libc::STDOUT_FILENO;

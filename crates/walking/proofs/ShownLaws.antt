@@ -22,7 +22,7 @@ use Rattle.hits.specs.declared.Candidate.{Candidate}
 use Rattle.hits.specs.declared.Hit.{Hit}
 use Rattle.hits.proofs.HitLoops.{polygon-hit-same}
 use Rattle.ship.specs.declared.Blocks.{Blocks}
-use Rattle.ship.specs.Blocks.{decksIn, blocksAt}
+use Rattle.ship.specs.Layout.{decksIn, blocksAt}
 use Rattle.ship.specs.Model.{Deck, noDeck, deckOf}
 use Rattle.ship.specs.Decode.{deckAt, decode}
 use Rattle.ship.specs.Questions.{firstNo, DeckOfPassed}

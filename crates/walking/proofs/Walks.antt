@@ -16,7 +16,7 @@ use Rattle.hits.specs.declared.Hit.{Hit}
 use Rattle.hits.specs.declared.Hit.the-variants.{At, Missed}
 use Rattle.hits.specs.Candidates.{candidate}
 use Rattle.hits.specs.Hits.{triedOf}
-use Rattle.ship.specs.Blocks.{decksIn, blocksAt}
+use Rattle.ship.specs.Layout.{decksIn, blocksAt}
 use Rattle.ship.specs.Decode.{decode}
 use Rattle.ship.specs.Questions.{firstNo}
 use Rattle.ship.proofs.Facts.{decks-range}

@@ -12,7 +12,7 @@ use Rattle.ring.specs.Table.{directions}
 use Rattle.ring.specs.Sample.{sampleOf}
 use Rattle.answers.specs.declared.Check.the-variants.{Passed}
 use Rattle.hits.specs.declared.Candidate.{Candidate}
-use Rattle.ship.specs.Blocks.{decksIn, blocksAt}
+use Rattle.ship.specs.Layout.{decksIn, blocksAt}
 use Rattle.ship.specs.Questions.{firstNo}
 use Rattle.ship.specs.Decode.{decode}
 use Rattle.ship.specs.Model.{Ship, deckOf}

@@ -2,7 +2,7 @@
 // the run chooses one, a call writes them.
 ghost use mathlib.Core.Path.{_≡_};
 ghost use Prim.Native.Nat.{_≤_, _<_};
-ghost use Rattle.ship.specs.Blocks.{decksIn};
+ghost use Rattle.ship.specs.Layout.{decksIn};
 ghost use Rattle.ship.specs.Decode.{decode};
 ghost use Rattle.survey.specs.Search.{turn};
 ghost use Rattle.walking.specs.Sees.{sampleOn, shownBy, seenBy, FileReady, SearchReady, TurnIn, CandidateIn};
