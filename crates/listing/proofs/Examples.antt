@@ -12,7 +12,7 @@ use Rattle.words.specs.Bytes.{u32At}
 use Rattle.words.specs.Rows.{rows, every, collect, sumOf}
 use Rattle.answers.specs.Checks.{checkEach}
 use Rattle.answers.specs.Questions.{question14, question17}
-use Rattle.ship.specs.Blocks.{blocksAt}
+use Rattle.ship.specs.Layout.{blocksAt}
 use Rattle.ship.specs.Decode.{deckAt, decode}
 use Rattle.ship.specs.Floats.{sizeAtMost, reachAllowed}
 use Rattle.ship.specs.Model.{pointOf, cornersOf, heightOf, polygonPoints, polygonCorners}
