@@ -31,7 +31,7 @@ hexFrom (suc k) n rest = hexFrom k (n / 16) (glyph (n % 16) ∷ rest)
 unfoldable pub hex : ℕ → List ℕ
 hex n = hexFrom 8 n []
 
--- text with these bytes put at a place, and the place after them
+-- text with these bytes put at a position, and the position after them
 pub record Put (text : List ℕ) (at : ℕ) (bytes text′ : List ℕ) (next : ℕ) : Type 0 where
   pub text-is : text′ ≡ splice text at bytes
   pub next-is : next ≡ at + length bytes

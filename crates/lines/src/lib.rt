@@ -1,4 +1,4 @@
-// The lines of `seatlist` as bytes (document 01, section 7), and question 21. Text is put at a place, and the place after it is answered.
+// The lines of `seatlist` as bytes (document 01, section 7), and question 21. Text is put at a position, and the position after it is answered.
 ghost use mathlib.Core.Path.{_≡_};
 ghost use mathlib.Core.Bool.{true};
 ghost use Prim.Native.Nat.{_+_, _≤_, _<_};
