@@ -207,15 +207,15 @@ fn height_case(rest: &[u8]) -> usize
     if rest.len() < 24 {
         return 0;
     }
-    let end = 24 + size_at(rest, 4);
-    let polygon = u32_at(rest, 16);
     let room = size_at(rest, 20);
-    if end > rest.len() {
-        return 0;
-    }
     if room > MOST_OUTPUT {
         return 0;
     }
+    let end = 24 + size_at(rest, 4);
+    if end > rest.len() {
+        return 0;
+    }
+    let polygon = u32_at(rest, 16);
     let Place::At(p) = place_at(rest, 8) else {
         return 0;
     };
