@@ -73,11 +73,6 @@ module _ (check : ℕ → Check) where
   pub passed-each : (n : ℕ) → ((k : ℕ) → k < n → check k ≡ Passed) → checkEach check 0 n ≡ Passed
   passed-each n h = passed-from n 0 (λ k a b. h k (omega arith))
 
-pub each-same : (check other : ℕ → Check) (n i : ℕ) → ((k : ℕ) → check k ≡ other k) → checkEach check i n ≡ checkEach other i n
-unfolding checkEach
-each-same check other zero i e = refl
-each-same check other (suc n) i e = rw (e i, each-same check other n (i + 1) e)
-
 -- the numbers below i passed, so the answer for all is the answer for those from i on
 pub record Checked (check : ℕ → Check) (n i : ℕ) : Type 0 where
   pub same : checkEach check 0 n ≡ checkEach check i (n - i)

@@ -5,7 +5,7 @@ use mathlib.Core.List.{List, [], _∷_}
 use mathlib.Core.Bool.{Bool, true, false, cond}
 use native.Mathlib.Omega.{arith}
 use native.Mathlib.Numerals.{add-one}
-use native.Mathlib.Nat.{sub-zero, mul-add}
+use native.Mathlib.Nat.{sub-zero}
 use lib.Dec.{T}
 use lib.Ieee.Bits.{is-true}
 use lib.ListN.{length}
@@ -17,8 +17,8 @@ use Rattle.hits.specs.declared.Hit.the-variants.{At, Missed}
 use Rattle.hits.specs.Candidates.{candidate}
 use Rattle.hits.specs.Hits.{polygonHit, triedOf}
 use Rattle.survey.specs.View.{Shown, View}
-use Rattle.survey.specs.Search.{passesOn, turn, passing, given, turnGives, turnTried, candidates, triedIn, triedBefore, Nowhere, InStep, firstStep}
-use Rattle.survey.proofs.Steps.{ring-next, HitIs, TurnIs, turn-is}
+use Rattle.survey.specs.Search.{passesOn, turn, passing, given, turnGives, turnTried, candidates, triedIn, Nowhere, InStep, firstStep}
+use Rattle.survey.proofs.Steps.{HitIs, TurnIs, turn-is}
 
 -- ---- a turn of the loop over the steps
 module _ (v : View) (s n : ℕ) where
@@ -128,15 +128,3 @@ module _ (v : View) where
 
   pub tried-in-bound : (s : ℕ) → triedIn v s ≤ v .decks * (10 * s + 1)
   tried-in-bound s = sum-bound (v .opens) (turnTried (v .shown) s) (10 * s + 1) (turn-tried-bound s) 0 (v .decks)
-
-  pub tried-before-bound : (s : ℕ) → triedBefore v s ≤ v .decks * (5 * s * s - 4 * s)
-  unfolding triedBefore
-  tried-before-bound zero = omega arith
-  tried-before-bound (suc s) =
-      omega (
-        arith,
-        tried-before-bound s,
-        tried-in-bound s,
-        mul-add (v .decks) (5 * s * s - 4 * s) (10 * s + 1),
-        ap (λ (n : ℕ). v .decks * n) (ring-next s),
-      )
