@@ -1,4 +1,5 @@
 //! Runs polyanya's own code and the proved library on the same ships and seats: compares every answer, and measures both.
+mod calls;
 mod ship;
 
 mod helpers {
@@ -118,6 +119,12 @@ fn check() {
     }
     // question 9 wants a file of 128 MiB, which the stored cases do not have
     assert_eq!(seats::run(&ship::too_many_polygons(), &[0; 32], &[]), Err(9));
+    let mut met = calls::Met::default();
+    for _ in 0..400 {
+        calls::check(&mut random, 12, &mut met);
+    }
+    assert!(met.all_met(), "a kind was never met: {met:?}");
+    println!("compare: the other calls agree with the Rust on 400 ships, 12 points each: {met:?}");
     println!("compare: {seats_compared} seats of 400 ships agree with the Rust, {placed} placed, {wishes} with a wished height; question 9 refuses 16,777,216 polygons");
 }
 

@@ -75,7 +75,7 @@ impl Deck {
             return deck;
         }
         let count = 1 + random.below(8);
-        let vertices = (0..count).map(|_| DeckVertex { x: random.coordinate(6), y: random.coordinate(6), neighbours: vec![0; random.below(3) as usize] }).collect();
+        let vertices = (0..count).map(|_| DeckVertex { x: random.coordinate(6), y: -random.coordinate(6), neighbours: vec![0; random.below(3) as usize] }).collect();
         let polygons = (0..1 + random.below(6)).map(|_| (0..1 + random.below(6)).map(|_| random.below(count)).collect()).collect();
         let heights = if random.below(2) == 0 { vec![] } else { (0..count).map(|_| random.coordinate(5)).collect() };
         Deck { offset: (random.coordinate(3), random.coordinate(3)), vertices, polygons, heights }
@@ -86,6 +86,46 @@ impl Ship {
     pub fn random(random: &mut Random) -> Self {
         let decks = (0..1 + random.below(4)).map(|_| Deck::random(random)).collect();
         Ship { decks, reach: random.below(33) as f32 / 16.0, steps: 1 + random.below(6) }
+    }
+
+    /// A point anywhere, or on a vertex, where several polygons pass.
+    pub fn point(&self, random: &mut Random) -> (f32, f32) {
+        if random.below(3) == 0 {
+            return (random.coordinate(10), random.coordinate(10));
+        }
+        let deck = &self.decks[random.below(self.decks.len() as u32) as usize];
+        let vertex = &deck.vertices[random.below(deck.vertices.len() as u32) as usize];
+        (vertex.x + deck.offset.0, vertex.y + deck.offset.1)
+    }
+
+    /// Neighbour lists: the polygons around each vertex and the outside, as plain numbers (unstitched) or packed, with or without those of
+    /// other decks (stitched), some left out so that reach goes one way, or anything.
+    pub fn set_lists(&mut self, random: &mut Random) {
+        let counts: Vec<u32> = self.decks.iter().map(|d| d.polygons.len() as u32).collect();
+        let kind = random.below(5);
+        for (d, deck) in self.decks.iter_mut().enumerate() {
+            for v in 0..deck.vertices.len() {
+                let around = (0..counts[d]).filter(|&k| deck.polygons[k as usize].contains(&(v as u32)));
+                let base = if kind == 0 { 0 } else { (d as u32) << 24 };
+                let mut list: Vec<u32> = around.map(|k| base + k).collect();
+                if kind >= 2 {
+                    for _ in 0..random.below(3) {
+                        let e = random.below(counts.len() as u32);
+                        list.push((e << 24) + random.below(counts[e as usize]));
+                    }
+                }
+                if kind == 3 {
+                    list.retain(|_| random.below(3) > 0);
+                }
+                if kind == 4 {
+                    list = (0..random.below(5)).map(|_| random.below(counts[d] + 1)).collect();
+                }
+                if random.below(2) == 0 {
+                    list.push(u32::MAX);
+                }
+                deck.vertices[v].neighbours = list;
+            }
+        }
     }
 
     /// Four decks of 1,500 polygons that overlap in part.

@@ -4,16 +4,16 @@ use native.Mathlib.Omega.{arith}
 use mathlib.Core.Path.{_≡_, refl, sym, ap, _∙_, subst}
 use mathlib.Core.Bool.{Bool, true, false, not}
 use mathlib.Core.List.{List, [], _++_}
-use lib.ListN.{length, drop, length-append, length-drop}
+use lib.ListN.{length, drop, replicate, length-append, length-drop, length-replicate}
 use lib.IntN.{ℤ}
 use Rattle.words.specs.Bytes.{joined}
 use Rattle.answers.specs.declared.Check.{Check}
 use Rattle.answers.specs.declared.Check.the-variants.{Passed, No}
 use Rattle.answers.specs.declared.Answer.{Answer}
 use Rattle.answers.specs.declared.Answer.the-variants.{Refused, Wrote}
-use Rattle.answers.specs.Checks.{after}
+use Rattle.answers.specs.Checks.{ask, after}
 use Rattle.answers.specs.Questions.{question20}
-use Rattle.answers.specs.Replies.{Reply, replyOf, replyCheck, answerFor, outputFor, answerTo, outputTo, Replied, codeOf, AnswerFits, RepliedCode}
+use Rattle.answers.specs.Replies.{Reply, replyOf, replyCheck, answerFor, outputFor, answerTo, outputTo, Replied, codeOf, AnswerFits, RepliedCode, withWork, workFor, workTo, Worked, WorkedCode}
 use Rattle.answers.proofs.Asking.{said-no, said-yes, asked-yes, both-passed, q20-no, q20-yes, q20-short, q20-fits}
 
 -- ---- the check with 20
@@ -135,3 +135,55 @@ module _ {reply : Reply} {out out′ : List ℕ} {r : Answer} (replied : Replied
 
   pub replied-code : {z : ℤ} → z ≡ codeOf r → RepliedCode reply out out′ z
   replied-code e = record { code-is = e ∙ ap codeOf (replied .answer-is); output-is = replied .output-is }
+
+-- ---- a call that is lent work as well
+with-work : (c : Check) (wanted : ℕ) (work : List ℕ) → c ≡ Passed → wanted ≤ length work → after c (ask (question20 wanted (length work)) 20 Passed) ≡ Passed
+with-work c wanted work passed wide = rw (passed, q20-yes wanted (length work) wide)
+
+-- in its ways; c is what the call's own check returned
+module _ {reply : Reply} {wanted : ℕ} {out work : List ℕ} {c : Check} (asked : c ≡ reply .check) where
+  pub worked-refused : {number : ℕ} → c ≡ No number → Worked reply wanted out out work work (Refused number)
+  unfolding answerTo outputTo workTo
+  worked-refused {number} e =
+      let n : after (reply .check) (ask (question20 wanted (length work)) 20 Passed) ≡ No number = rw (sym asked ∙ e) in
+      let k = check-refused (withWork reply wanted work) (length out) n in
+      record { replied = replied-refused refl n; work-is = rw k }
+
+  module _ (yes : c ≡ Passed) where
+    pub worked-narrow : length work < wanted → Worked reply wanted out out work work (Refused 20)
+    unfolding answerTo outputTo workTo
+    worked-narrow l =
+        let n : after (reply .check) (ask (question20 wanted (length work)) 20 Passed) ≡ No 20 = rw (sym asked ∙ yes, q20-no wanted (length work) l) in
+        let k = check-refused (withWork reply wanted work) (length out) n in
+        record { replied = replied-refused refl n; work-is = rw k }
+
+    module _ (wide : wanted ≤ length work) where
+      pub worked-short : length out < length (reply .bytes) → Worked reply wanted out out work work (Refused 20)
+      unfolding workTo
+      worked-short l =
+          let w = with-work (reply .check) wanted work (sym asked ∙ yes) wide in
+          let k = check-short (withWork reply wanted work) (length out) w l in
+          record { replied = replied-short refl w l; work-is = rw k }
+
+      pub worked-written : {out′ work′ : List ℕ} {n : ℕ} → length (reply .bytes) ≤ length out → n ≡ reply .count
+          → out′ ≡ reply .bytes ++ drop (length (reply .bytes)) out → work′ ≡ replicate (length work) 0
+          → Worked reply wanted out out′ work work′ (Wrote n)
+      unfolding workTo
+      worked-written l e o z =
+          let w = with-work (reply .check) wanted work (sym asked ∙ yes) wide in
+          let k = check-passed (withWork reply wanted work) (length out) w l in
+          record { replied = replied-written refl w l e o; work-is = z ∙ rw k }
+
+pub ruleset working = (worked-refused, worked-narrow, worked-short, worked-written)
+
+pub worked-length : {reply : Reply} {wanted : ℕ} {out out′ work work′ : List ℕ} {r : Answer} → Worked reply wanted out out′ work work′ r → length work′ ≡ length work
+unfolding workTo
+worked-length {reply} {wanted} {out} {work = work} w = ap length (w .work-is) ∙ go (replyCheck (withWork reply wanted work) (length out))
+  where
+    go : (k : Check) → length (workFor k work) ≡ length work
+    go Passed = length-replicate (length work) 0
+    go (No number) = refl
+
+pub worked-code : {reply : Reply} {wanted : ℕ} {out out′ work work′ : List ℕ} {r : Answer} → Worked reply wanted out out′ work work′ r → {z : ℤ} → z ≡ codeOf r
+    → WorkedCode reply wanted out out′ work work′ z
+worked-code w e = record { replied = replied-code (w .replied) e; work-is = w .work-is }

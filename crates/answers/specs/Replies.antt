@@ -3,7 +3,7 @@ use Prim.Native.Nat.{ℕ, _<_, _^_}
 use mathlib.Core.Path.{_≡_}
 use mathlib.Core.List.{List, _++_}
 use lib.IntN.{ℤ, pos, negℤ}
-use lib.ListN.{length, drop}
+use lib.ListN.{length, drop, replicate}
 use Rattle.words.specs.Bytes.{joined}
 use Rattle.answers.specs.declared.Check.{Check}
 use Rattle.answers.specs.declared.Check.the-variants.{Passed, No}
@@ -47,6 +47,24 @@ pub record Replied (reply : Reply) (out out′ : List ℕ) (answer : Answer) : T
   pub answer-is : answer ≡ answerTo reply out
   pub output-is : out′ ≡ outputTo reply out
 
+-- ---- a call that is lent work as well
+-- 20 asks for so many bytes of it too
+abbrev pub withWork : Reply → ℕ → List ℕ → Reply
+withWork reply wanted work =
+    record { check = after (reply .check) (ask (question20 wanted (length work)) 20 Passed); count = reply .count; bytes = reply .bytes }
+
+-- work is all zeros after an answer, the whole of it
+abbrev pub workFor : Check → List ℕ → List ℕ
+workFor Passed work = replicate (length work) 0
+workFor (No number) work = work
+
+unfoldable pub workTo : Reply → List ℕ → List ℕ → List ℕ
+workTo reply out work = workFor (replyCheck reply (length out)) work
+
+pub record Worked (reply : Reply) (wanted : ℕ) (out out′ work work′ : List ℕ) (answer : Answer) : Type 0 where
+  pub replied : Replied (withWork reply wanted work) out out′ answer
+  pub work-is : work′ ≡ workTo (withWork reply wanted work) out work
+
 -- ---- over C
 -- the count, or minus the question's number
 abbrev pub codeOf : Answer → ℤ
@@ -61,3 +79,7 @@ AnswerFits (Refused number) = Unit {0}
 pub record RepliedCode (reply : Reply) (out out′ : List ℕ) (code : ℤ) : Type 0 where
   pub code-is : code ≡ codeOf (answerTo reply out)
   pub output-is : out′ ≡ outputTo reply out
+
+pub record WorkedCode (reply : Reply) (wanted : ℕ) (out out′ work work′ : List ℕ) (code : ℤ) : Type 0 where
+  pub replied : RepliedCode (withWork reply wanted work) out out′ code
+  pub work-is : work′ ≡ workTo (withWork reply wanted work) out work

@@ -27,7 +27,7 @@ fn float_in_size(x: f32) -> bool
     -1000000.0 <= x && x <= 1000000.0
 }
 
-fn place_in_size(p: Vec2) -> bool
+pub fn place_in_size(p: Vec2) -> bool
     ensures { λ r. ⌜ r ≡ question16 p ⌝ }
 {
     float_in_size(p.x) && float_in_size(p.y)
@@ -54,7 +54,7 @@ fn query_check(file: &[u8], p: Vec2, deck: u32, blocked: &[u8]) -> Check
 }
 
 // A query searches as a seat without a wish.
-fn asked_at(p: Vec2, deck: u32) -> Seat
+pub fn asked_at(p: Vec2, deck: u32) -> Seat
     ensures { λ r. ⌜ r ≡ askedAt p deck ⌝ }
 {
     Seat {

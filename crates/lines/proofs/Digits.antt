@@ -10,9 +10,9 @@ use lib.ListN.{length, take, set, length-append, length-set}
 use lib.Seq.{drop-cons, getD-set-same, take-set-le, drop-set-lt}
 use borrow.Author.Tests.{ltb-true, ltb-false, lt-ltb, le-ltb}
 use Rattle.io.specs.Digits.{digits, Fewest}
-use Rattle.words.specs.Bytes.{splice}
+use Rattle.words.specs.Bytes.{splice, Put}
 use Rattle.words.proofs.Splice.{splice-nil}
-use Rattle.lines.specs.Text.{decimalFrom, decimal, glyph, hexFrom, hex, Put}
+use Rattle.lines.specs.Text.{decimalFrom, decimal, glyph, hexFrom, hex}
 
 -- ---- one digit
 pub glyph-low : {d : ℕ} → d < 10 → 48 + d ≡ glyph d
@@ -82,7 +82,7 @@ module _ {n : ℕ} {text₀ : List ℕ} {at : ℕ} {text : List ℕ} {left i : �
   unfolding hexFrom hex
   back-none h =
       let z : i ≡ 0 = omega arith in
-      record { text-is = sym (b .same ∙ rw (z, splice-nil)); next-is = omega (arith, hex-long n) }
+      record { out-is = sym (b .same ∙ rw (z, splice-nil)); next-is = omega (arith, hex-long n) }
 
 pub ruleset backward = (back-all, back-more, back-none)
 

@@ -6,12 +6,13 @@ use mathlib.Core.Bool.{Bool, true, false}
 use mathlib.Core.List.{List, [], _∷_, _++_, append-assoc}
 use lib.ListN.{length}
 use borrow.Author.Tests.{eq-eqb, ne-eqb}
+use Rattle.words.specs.Bytes.{Put}
 use Rattle.records.specs.declared.SeatRecord.{SeatRecord}
 use Rattle.records.specs.Record.{isUnplaced}
-use Rattle.lines.specs.Text.{decimal, hex, Put}
+use Rattle.lines.specs.Text.{decimal, hex}
 use Rattle.lines.specs.Lines.{field, placedWord, noneWord, endWord, refusedWord, heightField, placedFields, noneFields, seatLine, endLine, refusedLine}
 use Rattle.lines.specs.Groups.{polygonFields, pointFields, countFields, seatFields}
-use Rattle.lines.proofs.Joining.{put-put, put-same}
+use Rattle.words.proofs.Copying.{put-put, put-same}
 
 -- a field that is a number, a float's bits, a height
 abbrev number : ℕ → List ℕ

@@ -30,8 +30,3 @@ hexFrom (suc k) n rest = hexFrom k (n / 16) (glyph (n % 16) ∷ rest)
 -- a u32's bits: eight digits
 unfoldable pub hex : ℕ → List ℕ
 hex n = hexFrom 8 n []
-
--- text with these bytes put at a position, and the position after them
-pub record Put (text : List ℕ) (at : ℕ) (bytes text′ : List ℕ) (next : ℕ) : Type 0 where
-  pub text-is : text′ ≡ splice text at bytes
-  pub next-is : next ≡ at + length bytes

@@ -3,8 +3,8 @@ ghost use mathlib.Core.Path.{_≡_};
 ghost use mathlib.Core.Bool.{true};
 ghost use Prim.Native.Nat.{_+_, _≤_, _<_};
 ghost use lib.ListN.{length};
-ghost use Rattle.words.specs.Bytes.{u32At};
-ghost use Rattle.lines.specs.Text.{decimal, hex, Put};
+ghost use Rattle.words.specs.Bytes.{u32At, Put};
+ghost use Rattle.lines.specs.Text.{decimal, hex};
 ghost use Rattle.lines.specs.Text.{glyph as Text·glyph};
 ghost use Rattle.lines.specs.Lines.{field, heightField, placedFields, noneFields, seatLine, endLine, refusedLine};
 ghost use Rattle.lines.specs.Groups.{polygonFields, pointFields, countFields, seatFields};
@@ -36,12 +36,8 @@ pub fn put_bytes(text: &mut [u8], at: usize, bytes: &[u8]) -> usize
     requires { ⌜ at + length (now bytes) ≤ length (now text) ⌝ }
     ensures { λ r. ⌜ Put (now (text .entry)) at (now (bytes .entry)) (now (text .exit)) r ⌝ }
 {
-    let mut i: usize = 0;
-    'bytes: while i < bytes.len() {
-        text[at + i] = bytes[i];
-        i += 1;
-    }
-    at + i
+    words::copy(text, at, bytes);
+    at + bytes.len()
 }
 
 // n in decimal.

@@ -7,13 +7,13 @@ use mathlib.Core.Bool.{Bool, true, false, not, cond}
 use mathlib.Core.List.{List, [], _∷_, _++_, append-assoc, append-nil}
 use lib.ListN.{length}
 use borrow.Author.Tests.{not-true, not-false}
+use Rattle.words.specs.Bytes.{Put}
 use Rattle.words.specs.Rows.{rows}
 use Rattle.words.proofs.Splice.{length-splice, splice-nil}
 use Rattle.records.specs.declared.SeatRecord.{SeatRecord}
 use Rattle.records.specs.Record.{recordAt, recordsIn, isUnplaced}
-use Rattle.lines.specs.Text.{Put}
 use Rattle.lines.specs.Lines.{seatLine}
-use Rattle.lines.proofs.Joining.{put-put}
+use Rattle.words.proofs.Copying.{put-put}
 use Rattle.listing.specs.Listing.{seatLines, placedIn, unplacedIn}
 use Rattle.listing.specs.Sizes.{mostSeats, textSize}
 
@@ -47,7 +47,7 @@ pub record Listed (records text₀ text : List ℕ) (at i : ℕ) : Type 0 where
 module _ {records text₀ : List ℕ} where
   pub listed-none : Listed records text₀ text₀ 0 0
   unfolding seatLines rows
-  listed-none = record { long = refl; few = omega arith; put = record { text-is = sym (splice-nil text₀ 0); next-is = refl } }
+  listed-none = record { long = refl; few = omega arith; put = record { out-is = sym (splice-nil text₀ 0); next-is = refl } }
 
   module _ {text : List ℕ} {at i : ℕ} (l : Listed records text₀ text at i) where
     pub listed-more : {text′ : List ℕ} {count n : ℕ} {r : SeatRecord} → i < count → count ≤ mostSeats → textSize ≤ length text₀
@@ -58,7 +58,7 @@ module _ {records text₀ : List ℕ} where
         let fits : at + length (seatLine i r) ≤ length text = omega (arith, p .next-is, l .long, l .few) in
         let q = put-put (l .put) (omega (arith, l .few)) p in
         record {
-          long = rw (p .text-is) (length-splice text at (seatLine i r) fits ∙ l .long);
+          long = rw (p .out-is) (length-splice text at (seatLine i r) fits ∙ l .long);
           few = omega (arith, l .few);
           put = rw (add-one, lines-last (recordAt records) i 0, z, ← e) q;
         }

@@ -6,7 +6,7 @@ use mathlib.Core.Bool.{Bool, true, not}
 use mathlib.Core.List.{List}
 use lib.ListN.{length, take, drop, length-drop}
 use lib.Seq.{length-take-le, take-at, take-all}
-use Rattle.words.specs.Bytes.{u32At, splice}
+use Rattle.words.specs.Bytes.{u32At, splice, Put}
 use Rattle.words.proofs.Splice.{length-splice}
 use Rattle.words.proofs.TableRows.{length-rows}
 use Rattle.answers.specs.declared.Check.the-variants.{Passed}
@@ -17,10 +17,9 @@ use Rattle.answers.proofs.Asking.{said-no, said-yes}
 use Rattle.answers.proofs.Replying.{wrote-check, wrote-count, wrote-bytes, refused-check, replied-length, replied-short, replied-written}
 use Rattle.records.specs.Record.{recordSize, recordAt, recordsIn, recordsBytes}
 use Rattle.records.proofs.ReadBack.{records-length, records-written}
-use Rattle.lines.specs.Text.{Put}
 use Rattle.lines.specs.Lines.{endLine, refusedLine}
 use Rattle.lines.specs.Input.{question21}
-use Rattle.lines.proofs.Joining.{put-put}
+use Rattle.words.proofs.Copying.{put-put}
 use Rattle.lines.proofs.Question21.{input-small}
 use Rattle.ship.specs.Decode.{decode}
 use Rattle.seats.specs.Run.{runRecords, runReply}
@@ -37,7 +36,7 @@ module _ {s t xs : List ℕ} {at n : ℕ} (p : Put s at xs t n) where
   put-fits : n ≤ length s → n ≤ length t
   put-fits h =
       let fits : at + length xs ≤ length s = omega (arith, p .next-is) in
-      omega (arith, ap length (p .text-is), length-splice s at xs fits)
+      omega (arith, ap length (p .out-is), length-splice s at xs fits)
 
 -- one line, at the start
 pub line-fits : {s t xs : List ℕ} {n : ℕ} → Put s 0 xs t n → n ≤ 0 + 128 → textSize ≤ length s → n ≤ length t
@@ -45,7 +44,7 @@ line-fits p h room = put-fits p (omega arith)
 
 front : {s t xs : List ℕ} {n : ℕ} → Put s 0 xs t n → take n t ≡ xs
 unfolding splice
-front {s} {t} {xs} {n} p = rw (p .text-is) (take-at xs _ n (omega (arith, p .next-is)))
+front {s} {t} {xs} {n} p = rw (p .out-is) (take-at xs _ n (omega (arith, p .next-is)))
 
 -- ---- put_records
 pub records-put : (records : List ℕ) {s t u : List ℕ} {count n m placed : ℕ} → count ≤ mostSeats → textSize ≤ length s
@@ -117,7 +116,7 @@ module _ (input : List ℕ) {s t : List ℕ} {n : ℕ} (p : Written s (seatlistT
   text-copied {out} h q =
       let w = rw (front (p .0)) at q in
       let z : 0 + length (seatlistText input) ≡ length (seatlistText input) = omega arith in
-      replied-written refl refl (omega (arith, p .0 .next-is)) (omega (arith, p .0 .next-is)) (rw z at (w .text-is))
+      replied-written refl refl (omega (arith, p .0 .next-is)) (omega (arith, p .0 .next-is)) (rw z at (w .out-is))
 
 pub ruleset texts = (
   line-fits,

@@ -2,8 +2,8 @@
 use Prim.Native.Nat.{ℕ, _+_, _*_, _≤_}
 use mathlib.Core.List.{List}
 use lib.ListN.{length}
+use Rattle.words.specs.Bytes.{Put}
 use Rattle.records.specs.Record.{recordSize}
-use Rattle.lines.specs.Text.{Put}
 
 -- 65,536 bytes, less a length and a blocked set, and 20 bytes a seat
 abbrev pub seatsSize : ℕ

@@ -2,10 +2,10 @@
 ghost use mathlib.Core.Path.{_≡_};
 ghost use Prim.Native.Nat.{_*_, _≤_};
 ghost use lib.ListN.{length};
+ghost use Rattle.words.specs.Bytes.{Put};
 ghost use Rattle.answers.specs.declared.Check.the-variants.{Passed};
 ghost use Rattle.answers.specs.Replies.{Replied};
 ghost use Rattle.records.specs.Record.{recordSize, recordsIn};
-ghost use Rattle.lines.specs.Text.{Put};
 ghost use Rattle.listing.specs.Listing.{seatLines, placedIn, runText, listText, seatlistText, textReply};
 ghost use Rattle.listing.specs.Sizes.{seatsSize, recordsSize, textSize, mostSeats, Room, Written};
 use answers::Answer;

@@ -1,18 +1,26 @@
 -- Each call's answer over C: how many entries it wrote fits an i64, since each has more than two bytes.
 use Prim.Native.Nat.{ℕ, _^_, _<_}
 use native.Mathlib.Omega.{arith}
+use mathlib.Core.Path.{_≡_, ap, _∙_}
 use mathlib.Core.List.{List}
+use lib.Ieee.{Float}
+use lib.IntN.{ℤ}
 use lib.ListN.{length}
 use Rattle.geometry.specs.declared.Vec2.{Vec2}
 use Rattle.words.specs.Bytes.{bytes4}
 use Rattle.words.proofs.Writing.{length-bytes4, length-joined}
 use Rattle.answers.specs.declared.Answer.{Answer}
 use Rattle.answers.specs.Replies.{Replied, AnswerFits}
-use Rattle.answers.proofs.Replying.{replied-fits, replied-code}
+use Rattle.answers.proofs.Replying.{replied-fits, replied-code, worked-code, worked-length}
 use Rattle.walking.specs.Sees.{shownBy}
-use Rattle.calls.specs.Closest.{closestPoints, closestPoint, closestPointsReply, closestPointReply}
+use Rattle.calls.specs.Closest.{pointOfParts, closestPoints, closestPoint, closestPointsReply, closestPointReply}
 use Rattle.calls.specs.HeightCall.{heightEntry, heightCall, heightReply}
 use Rattle.calls.proofs.EntryLoop.{length-candidates}
+use Rattle.locating.specs.declared.Location.{Location}
+use Rattle.locating.specs.Locating.{pointLayer, locationOf, locationCode, locatedCode, layerReply}
+use Rattle.islands.specs.Islands.{IslandsWorked}
+use Rattle.islands.proofs.IslandsCall.{islands-long}
+use Rattle.removal.proofs.Codes.{removal-fits}
 use Rattle.records.proofs.ReadBack.{records-length}
 use Rattle.seats.specs.Run.{runRecords, runReply}
 use Rattle.seats.proofs.SurveyTheorem.{surveyed-code}
@@ -30,6 +38,22 @@ height-code file p polygon h l = replied-fits h (omega (arith, length-joined byt
 pub run-code : (file blocked seats : List ℕ) {out out′ : List ℕ} {r : Answer} → Replied (runReply file blocked seats) out out′ r → length out < 2 ^ 64 → AnswerFits r
 run-code file blocked seats h l = replied-fits h (omega (arith, records-length (runRecords file blocked seats))) l
 
-pub ruleset codes = (points-code, point-code, height-code, replied-code)
+-- ---- section 8
+pub layer-code : (file : List ℕ) (p : Vec2) (deck : ℕ) {out out′ : List ℕ} {r : Answer} → Replied (layerReply file p deck) out out′ r → length out < 2 ^ 64 → AnswerFits r
+layer-code file p deck h l = replied-fits h (omega (arith, length-joined bytes4 4 length-bytes4 (pointLayer file p deck))) l
+
+pub islands-code : (file : List ℕ) (deck : ℕ) {out out′ work work′ : List ℕ} {r : Answer} → IslandsWorked file deck out out′ work work′ r → length out < 2 ^ 64 → AnswerFits r
+islands-code file deck h l = replied-fits (h .replied) (omega (arith, islands-long file deck)) l
+
+pub location-is : (file : List ℕ) (x y : Float) (deck : ℕ) {l : Location} {z : ℤ} → l ≡ locationOf file (pointOfParts x y) deck → z ≡ locationCode l → z ≡ locatedCode file x y deck
+location-is file x y deck e f = f ∙ ap locationCode e
+
+pub ruleset location-codes = (location-is)
+
+pub ruleset codes = (points-code, point-code, height-code, layer-code, replied-code)
+
+pub ruleset work-codes = (islands-code, worked-code, worked-length)
+
+pub ruleset removal-codes = (removal-fits, replied-code)
 
 pub ruleset run-codes = (run-code, replied-code, surveyed-code)

@@ -10,6 +10,10 @@ ghost use Rattle.answers.specs.Checks.{checkEach};
 ghost use Rattle.ship.specs.Floats.{inSize};
 ghost use Rattle.calls.specs.Closest.{PointsCode, PointCode};
 ghost use Rattle.calls.specs.HeightCall.{HeightCode};
+ghost use Rattle.locating.specs.Locating.{locatedCode, LayerCode};
+ghost use Rattle.islands.specs.Islands.{IslandsCode, LabelsLeast};
+ghost use Rattle.removal.specs.declared.Stitches.the-variants.{All, ToLayer};
+ghost use Rattle.removal.specs.NewFile.{RemovalCode, RemovalSound};
 ghost use Rattle.seats.specs.SeatFile.{seatSize, seatWord, seatFloat, seatAt, seatCount, kindAllowed, question16Seat, seatCheck};
 ghost use Rattle.seats.specs.Run.{runCheck, RunReplied, RunCode, RecordsReady, RecordsPut};
 ghost use Rattle.seats.specs.Survey.{Surveyed, SurveyedCode};
@@ -216,4 +220,45 @@ pub extern "C" fn seats_height(file: &[u8], x: f32, y: f32, polygon: u32, out: &
     ensures { λ r. ⌜ HeightCode (now (file .entry)) x y polygon (now (out .entry)) (now (out .exit)) r ⌝ }
 {
     answers::code(calls::height(file, Vec2 { x, y }, polygon, out))
+}
+
+// The packed polygon, all ones where there is none, or minus the question's number.
+#[no_mangle]
+pub extern "C" fn seats_point_location(file: &[u8], x: f32, y: f32, deck: u32) -> i64
+    ensures { λ r. ⌜ r ≡ locatedCode (now (file .entry)) x y deck ⌝ }
+{
+    locating::code(locating::get_point_location(file, Vec2 { x, y }, deck))
+}
+
+#[no_mangle]
+pub extern "C" fn seats_point_layer(file: &[u8], x: f32, y: f32, deck: u32, out: &mut [u8]) -> i64
+    ensures { λ r. ⌜ LayerCode (now (file .entry)) x y deck (now (out .entry)) (now (out .exit)) r ⌝ }
+{
+    answers::code(locating::get_point_layer(file, Vec2 { x, y }, deck, out))
+}
+
+#[no_mangle]
+pub extern "C" fn seats_islands(file: &[u8], deck: u32, out: &mut [u8], work: &mut [u8]) -> i64
+    ensures replied { λ r. ⌜ IslandsCode (now (file .entry)) deck (now (out .entry)) (now (out .exit))
+        (now (work .entry)) (now (work .exit)) r ⌝ }
+    ensures labelled { λ _. ⌜ LabelsLeast (now (file .entry)) deck ⌝ }
+{
+    answers::code(islands::bake_islands_detection(file, deck, out, work))
+}
+
+// The bytes of the new file, or minus the question's number.
+#[no_mangle]
+pub extern "C" fn seats_remove_stitches(file: &[u8], out: &mut [u8]) -> i64
+    ensures replied { λ r. ⌜ RemovalCode All (now (file .entry)) (now (out .entry)) (now (out .exit)) r ⌝ }
+    ensures sound { λ _. ⌜ RemovalSound All (now (file .entry)) ⌝ }
+{
+    answers::code(removal::remove_stitches(file, out))
+}
+
+#[no_mangle]
+pub extern "C" fn seats_remove_stitches_to_layer(file: &[u8], layer: u8, out: &mut [u8]) -> i64
+    ensures replied { λ r. ⌜ RemovalCode (ToLayer layer) (now (file .entry)) (now (out .entry)) (now (out .exit)) r ⌝ }
+    ensures sound { λ _. ⌜ RemovalSound (ToLayer layer) (now (file .entry)) ⌝ }
+{
+    answers::code(removal::remove_stitches_to_layer(file, layer, out))
 }

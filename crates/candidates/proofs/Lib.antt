@@ -1,0 +1,4 @@
+pub mod CandidateAsks
+pub mod PolygonTotal
+pub mod ListedNumbers
+pub mod CandidateReplies

@@ -1,0 +1,10 @@
+pub mod Reaching
+pub mod Through
+pub mod Counts
+pub mod Numbers
+pub mod Marking
+pub mod Sweeping
+pub mod ListLoops
+pub mod EntriesInside
+pub mod DeckWalks
+pub mod IslandsCall

@@ -1,0 +1,4 @@
+pub mod Reach
+pub mod Labels
+pub mod Islands
+pub mod Walk

@@ -1,0 +1,4 @@
+pub mod Places
+pub mod FloodLoop
+pub mod Staying
+pub mod MergeLoop

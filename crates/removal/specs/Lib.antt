@@ -1,0 +1,3 @@
+pub mod Removal
+pub mod NewFile
+pub mod Parts
