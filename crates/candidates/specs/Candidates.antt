@@ -60,6 +60,6 @@ abbrev pub CandidatesCode : List ℕ → Float → Float → ℕ → ℕ → Lis
 CandidatesCode file x y deck polygon blocked out out′ work work′ r =
     WorkedCode (candidatesReply file (pointOfParts x y) deck polygon blocked) (candidatesWork file) out out′ work work′ r
 
--- what dropped out is what an earlier one reaches by a chain through the list
+-- what drops out is what an earlier one reaches by a chain through the list
 abbrev pub CandidatesMerged : List ℕ → Vec2 → ℕ → List ℕ → Type 0
 CandidatesMerged file p deck blocked = MergedSound (touches (decode file)) (foundPolygons file p deck blocked)

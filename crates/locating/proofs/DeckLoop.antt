@@ -8,7 +8,7 @@ use mir.Syntax.{w64}
 use mir.Val.{Fits}
 use lib.IntN.{ℤ}
 use lib.ListN.{length, drop, take, length-drop}
-use lib.Seq.{take-at, length-take-le}
+use lib.Seq.{take-at}
 use Rattle.geometry.specs.declared.Vec2.{Vec2}
 use Rattle.words.specs.Bytes.{allOnes, bytes4, wordsOf, splice, putU32}
 use Rattle.words.specs.Rows.{collect}
@@ -179,12 +179,6 @@ pub ruleset listing =
 pub point-passed : (file : List ℕ) (p : Vec2) {r : Check} → r ≡ pointCheck file p → r ≡ Passed → firstNo file ≡ Passed
 unfolding pointCheck
 point-passed file p asked passed = both-passed (firstNo file) _ (sym asked ∙ passed) .0
-
--- ---- `put_front`
-pub front-room : (n : ℕ) (list : List ℕ) {room : ℕ} → n ≤ length list → n ≤ room → 0 + length (take n list) ≤ room
-front-room n list h r = rw (length-take-le n list h) (omega arith)
-
-pub ruleset fronts = (length-take-le, front-room)
 
 -- ---- `get_point_layer`
 module _ (file : List ℕ) (p : Vec2) (deck : ℕ) {count : ℕ} (counted : count ≡ length (pointLayer file p deck)) where

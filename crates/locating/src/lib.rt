@@ -118,14 +118,6 @@ fn list_layers(file: &[u8], p: Vec2, deck: u32, list: &mut [u8]) -> usize
     n
 }
 
-// The first n bytes of a list.
-fn put_front(list: &[u8], n: usize, out: &mut [u8])
-    requires { ⌜ (n ≤ length (now list)) × (n ≤ length (now out)) ⌝ }
-    ensures { λ _. ⌜ now (out .exit) ≡ splice (now (out .entry)) 0 (take n (now (list .entry))) ⌝ }
-{
-    words::copy(out, 0, &list[..n])
-}
-
 // They are listed first, since question 20 comes before a byte is written.
 pub fn get_point_layer(file: &[u8], p: Vec2, deck: u32, out: &mut [u8]) -> Answer
     ensures { λ r. ⌜ LayerReplied (now (file .entry)) p deck (now (out .entry)) (now (out .exit)) r ⌝ }
@@ -139,7 +131,7 @@ pub fn get_point_layer(file: &[u8], p: Vec2, deck: u32, out: &mut [u8]) -> Answe
     if !answers::room_for(NUMBER_SIZE, count, out.len()) {
         return Answer::Refused(20);
     }
-    put_front(&list, NUMBER_SIZE * count, out);
+    words::put_front(&list, NUMBER_SIZE * count, out);
     Answer::Wrote(count)
 }
 

@@ -8,10 +8,12 @@ ghost use lib.Ieee.{binary32, nanBits};
 ghost use Rattle.geometry.specs.Bounds.{PointWithin};
 ghost use Rattle.answers.specs.Checks.{checkEach};
 ghost use Rattle.ship.specs.Floats.{inSize};
-ghost use Rattle.calls.specs.Closest.{PointsCode, PointCode};
+ghost use Rattle.calls.specs.Closest.{pointOfParts, PointsCode, PointCode};
 ghost use Rattle.calls.specs.HeightCall.{HeightCode};
 ghost use Rattle.locating.specs.Locating.{locatedCode, LayerCode};
+ghost use Rattle.candidates.specs.Candidates.{CandidatesCode, CandidatesMerged};
 ghost use Rattle.islands.specs.Islands.{IslandsCode, LabelsLeast};
+ghost use Rattle.stitching.specs.Points.{StitchPointsCode};
 ghost use Rattle.removal.specs.declared.Stitches.the-variants.{All, ToLayer};
 ghost use Rattle.removal.specs.NewFile.{RemovalCode, RemovalSound};
 ghost use Rattle.seats.specs.SeatFile.{seatSize, seatWord, seatFloat, seatAt, seatCount, kindAllowed, question16Seat, seatCheck};
@@ -238,12 +240,38 @@ pub extern "C" fn seats_point_layer(file: &[u8], x: f32, y: f32, deck: u32, out:
 }
 
 #[no_mangle]
+pub extern "C" fn seats_candidate_polygons(
+    file: &[u8],
+    x: f32,
+    y: f32,
+    deck: u32,
+    polygon: u32,
+    blocked: &[u8],
+    out: &mut [u8],
+    work: &mut [u8],
+) -> i64
+    ensures replied { λ r. ⌜ CandidatesCode (now (file .entry)) x y deck polygon (now (blocked .entry))
+        (now (out .entry)) (now (out .exit)) (now (work .entry)) (now (work .exit)) r ⌝ }
+    ensures merged { λ _. ⌜ CandidatesMerged (now (file .entry)) (pointOfParts x y) deck (now (blocked .entry)) ⌝ }
+{
+    let p = Vec2 { x, y };
+    answers::code(candidates::candidate_polygons(file, p, deck, polygon, blocked, out, work))
+}
+
+#[no_mangle]
 pub extern "C" fn seats_islands(file: &[u8], deck: u32, out: &mut [u8], work: &mut [u8]) -> i64
     ensures replied { λ r. ⌜ IslandsCode (now (file .entry)) deck (now (out .entry)) (now (out .exit))
         (now (work .entry)) (now (work .exit)) r ⌝ }
     ensures labelled { λ _. ⌜ LabelsLeast (now (file .entry)) deck ⌝ }
 {
     answers::code(islands::bake_islands_detection(file, deck, out, work))
+}
+
+#[no_mangle]
+pub extern "C" fn seats_stitch_points(file: &[u8], out: &mut [u8]) -> i64
+    ensures { λ r. ⌜ StitchPointsCode (now (file .entry)) (now (out .entry)) (now (out .exit)) r ⌝ }
+{
+    answers::code(stitching::find_stitch_points(file, out))
 }
 
 // The bytes of the new file, or minus the question's number.

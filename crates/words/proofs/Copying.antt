@@ -1,4 +1,4 @@
--- A store of one byte, a loop that copies a slice byte by byte, one that clears it, and parts put one after another.
+-- A store of one byte, a loop that copies a slice byte by byte, the front of a list, a loop that clears, and parts put one after another.
 use Prim.Native.Nat.{ℕ, _+_, _≤_, _<_}
 use native.Mathlib.Omega.{arith}
 use native.Mathlib.Numerals.{add-one}
@@ -6,8 +6,8 @@ use native.Mathlib.Nat.{add-assoc}
 use native.Mathlib.Decide.{ℕ-discrete}
 use mathlib.Core.Path.{_≡_, refl, sym, ap, _∙_}
 use mathlib.Core.List.{List, [], _∷_, _++_}
-use lib.ListN.{length, length-append, getD, drop, set, replicate, length-set, length-replicate, getD-replicate, drop-of-length-le}
-use lib.Seq.{sets-eq, drop-cons, ext-getD, getD-set-same, getD-set-other}
+use lib.ListN.{length, length-append, getD, take, drop, set, replicate, length-set, length-replicate, getD-replicate, drop-of-length-le}
+use lib.Seq.{sets-eq, length-take-le, drop-cons, ext-getD, getD-set-same, getD-set-other}
 use Rattle.words.specs.Bytes.{splice, Put}
 use Rattle.words.proofs.Splice.{length-splice, splice-splice, splice-nil}
 
@@ -45,6 +45,12 @@ module _ {text₀ : List ℕ} {at : ℕ} {bytes : List ℕ} where
     copied-none h = sym (c .same ∙ rw (drop-of-length-le bytes h, splice-nil))
 
 pub ruleset copying = (copied-all, copied-more, copied-none)
+
+-- ---- the front of a list
+pub front-room : (n : ℕ) (list : List ℕ) {room : ℕ} → n ≤ length list → n ≤ room → 0 + length (take n list) ≤ room
+front-room n list h r = rw (length-take-le n list h) (omega arith)
+
+pub ruleset fronts = (length-take-le, front-room)
 
 -- ---- zeros
 -- the bytes before i are 0

@@ -1,8 +1,8 @@
 -- `put_front` meets its contract.
 use borrow.Author.Needs.{needs}
-use Rattle.locating.proofs.DeckLoop.{fronts}
-use Rattle.locating.proofs.put_front.Statement.{statement}
-use Rattle.locating.proofs.put_front.Tie as tie
+use Rattle.words.proofs.Copying.{fronts}
+use Rattle.words.proofs.put_front.Statement.{statement}
+use Rattle.words.proofs.put_front.Tie as tie
 
 slice-aggregate-copy : tie.Need-slice-aggregate-copy
 slice-aggregate-copy c = search (fronts, needs)
