@@ -1,9 +1,9 @@
--- `seats_cases::print_entry` is safe and ends: each word takes four bytes of the entry. Assumes nothing.
+-- `cases::print_entry` is safe and ends: each word takes four bytes of the entry. Assumes nothing.
 use Prim.Native.Nat.{_≤_, _-_}
 use lib.ListN.{length}
 use borrow.Author.Needs.{needs}
-use Rattle.seats_cases.proofs.print_entry.Statement.{statement}
-use Rattle.seats_cases.proofs.print_entry.Tie as tie
+use Rattle.cases.proofs.print_entry.Statement.{statement}
+use Rattle.cases.proofs.print_entry.Tie as tie
 
 abbrev Inv-words : tie.InvT-words
 Inv-words entry at₀ _ at = at ≤ length entry

@@ -1,9 +1,9 @@
--- `seats_cases::print_entries` is safe and ends: an entry has at least one byte. Assumes nothing.
+-- `cases::print_entries` is safe and ends: an entry has at least one byte. Assumes nothing.
 use Prim.Native.Nat.{_≤_, _-_}
 use lib.ListN.{length}
 use borrow.Author.Needs.{needs}
-use Rattle.seats_cases.proofs.print_entries.Statement.{statement}
-use Rattle.seats_cases.proofs.print_entries.Tie as tie
+use Rattle.cases.proofs.print_entries.Statement.{statement}
+use Rattle.cases.proofs.print_entries.Tie as tie
 
 abbrev Inv-entries : tie.InvT-entries
 Inv-entries entries width at₀ at = at ≤ length entries

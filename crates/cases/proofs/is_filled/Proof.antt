@@ -1,15 +1,15 @@
--- `seats_cases::is_kept` is safe and ends. Assumes nothing.
+-- `cases::is_filled` is safe and ends. Assumes nothing.
 use Prim.Native.Nat.{_≤_, _-_}
 use lib.ListN.{length}
 use borrow.Author.Needs.{needs}
-use Rattle.seats_cases.proofs.is_kept.Statement.{statement}
-use Rattle.seats_cases.proofs.is_kept.Tie as tie
+use Rattle.cases.proofs.is_filled.Statement.{statement}
+use Rattle.cases.proofs.is_filled.Tie as tie
 
 abbrev Inv-bytes : tie.InvT-bytes
-Inv-bytes out from i₀ i = i₀ ≤ i
+Inv-bytes bytes from fill i₀ i = i₀ ≤ i
 
 abbrev μ-bytes : tie.MeasureT-bytes
-μ-bytes out from i₀ i = length out - i
+μ-bytes bytes from fill i₀ i = length bytes - i
 
 bytes-holds : tie.Need-bytes-holds Inv-bytes μ-bytes
 bytes-holds c = search needs
@@ -32,8 +32,8 @@ bytes-again c = search needs
 returns-2 : tie.Need-returns-2 Inv-bytes μ-bytes
 returns-2 c = search needs
 
-pub is-kept-spec : {M : Type 1} → statement M
-is-kept-spec =
+pub is-filled-spec : {M : Type 1} → statement M
+is-filled-spec =
     tie.close
     (tie.spec
     Inv-bytes

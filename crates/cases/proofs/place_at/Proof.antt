@@ -1,4 +1,4 @@
--- `seats_cases::place_at` is safe: what passes a test is no NaN's pattern. Assumes nothing.
+-- `cases::place_at` is safe: what passes a test is no NaN's pattern. Assumes nothing.
 use mathlib.Core.Path.{_≡_, sym, subst, _∙_}
 use mathlib.Core.Bool.{Bool, false, not}
 use Prim.Native.Nat.{ℕ, _≤_, _%_}
@@ -7,8 +7,8 @@ use lib.Ieee.{binary32, nanBits}
 use lib.Ieee.Bits.{nanBits-above}
 use borrow.Author.Tests.{le-ltb}
 use borrow.Author.Needs.{needs}
-use Rattle.seats_cases.proofs.place_at.Statement.{statement}
-use Rattle.seats_cases.proofs.place_at.Tie as tie
+use Rattle.cases.proofs.place_at.Statement.{statement}
+use Rattle.cases.proofs.place_at.Tie as tie
 
 no-nan : (n : ℕ) → n % 0x80000000 ≤ 0x7F800000 → T (not (nanBits binary32 n))
 no-nan n h =
