@@ -4,7 +4,7 @@
 //   P, the closest points, and Q, the closest point: file length, blocked length, x, y, deck, output length
 //   H, the height: file length, x, y, packed polygon, output length
 // The answer's lines are those of the crate `cases`. What is no case gives the one word `bad`, and nothing after it is read.
-ghost use Prim.Native.Nat.{_+_, _<_, _≤_};
+ghost use Prim.Native.Nat.{_<_, _≤_};
 ghost use lib.ListN.{length};
 use cases::FILL;
 use cases::Place;
