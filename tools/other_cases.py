@@ -25,7 +25,7 @@ import geometry_cases as g
 import seats_cases as seats
 import ship_cases
 import stored_cases
-from seats_cases import ABOVE, INFINITY, MILLION, round_trip, value
+from seats_cases import ABOVE, BARE, CORNERS, INFINITY, MILLION, round_trip, value
 from ship_file import ALL_ONES, EXAMPLE_SHIP, SQUARE, bits, blocked, deck_blocks, put, u32
 
 MOST_BYTES = 260000  # they fit the program's array
@@ -174,15 +174,16 @@ def first_no(questions):
 # ---- a case: its name, the lines of its answer, and its bytes
 
 
-def replied(ship, questions, answer, room, need, work):
+def replied(questions, answer, room, need, work):
     """The number of the refusal or None, the entries, and the lengths of output and work, which fit where they are not given."""
-    if not first_no(questions):
-        entries = answer()
-        length = 4 * sum(len(one) for one in entries)
-        room = length if room is None else room
-        work = need if work is None else work
-        return (20 if room < length or work < need else None), entries, room, work
-    return first_no(questions), None, room, work
+    refused = first_no(questions)
+    if refused:
+        return refused, None, room, work
+    entries = answer()
+    length = 4 * sum(len(one) for one in entries)
+    room = length if room is None else room
+    work = need if work is None else work
+    return 20 if room < length or work < need else None, entries, room, work
 
 
 def stored(letter, name, ship, no, questions, answer, unit=1, need=None, p=(0.0, 0.0), deck=0, number=0, closed=b"", room=None, work=None):
@@ -191,7 +192,7 @@ def stored(letter, name, ship, no, questions, answer, unit=1, need=None, p=(0.0,
         file, refused, entries = ship, no, None
     else:
         file = ship.file
-        refused, entries, room, work = replied(ship, questions, answer, room, need() if need else 0, work)
+        refused, entries, room, work = replied(questions, answer, room, need() if need else 0, work)
         assert no in (ANY, refused), (name, no, refused)
     room = 64 if room is None else room
     work = 0 if need is None else 64 if work is None else work
@@ -218,6 +219,8 @@ def each(some):
 
 
 def location(name, ship, x=1.0, y=1.0, deck=ALL_ONES, no=None):
+    """It is lent no output, so that 20 is not asked."""
+
     def answer():
         return each((point_layers(ship, place(x, y), deck) + [ALL_ONES])[:1])
 
@@ -280,9 +283,7 @@ def listed(deck, *lists):
     return dict(deck, vertices=[(x, y, neighbours) for (x, y, _), neighbours in zip(deck["vertices"], some)])
 
 
-CORNERS = "0 0 4 0 4 4 0 4"
-FAR = seats.deck("100 100 104 100 104 104 100 104")
-BARE = seats.deck(CORNERS)
+FAR = seats.deck("100 100 104 100 104 104 100 104")  # no place here comes near it
 EXAMPLE = Ship(SQUARE)
 
 
@@ -338,7 +339,7 @@ def located_deck_cases():
         yield call("decks rising, not probes", ship, 0.0, 0.0)
         for d in (0, 2):
             yield call("deck %d named" % d, ship, 0.0, 0.0, deck=d)
-        for d in (3, 256, ALL_ONES - 1):
+        for d in (3, 256 + 2, ALL_ONES - 1):
             yield call("deck %d named, which is not there" % d, ship, 0.0, 0.0, deck=d)
         yield call("nothing found", ship, 50.0, 50.0)
         moved = Ship(dict(soon, offset=(10.0, 20.0)), soon, dict(soon, offset=(9.0, 20.0)), reach=1.0)
@@ -454,7 +455,7 @@ def chain_cases():
         if text in ("0>2 2>1", "2>1 1>0", "0>3 3>1"):
             deck = stack(n, *[(a, packed(1, b)) for a, b in hops])
             yield polygons("%d on deck 1, packed: %s" % (n, text), Ship(FAR, deck), deck=1)
-    yield polygons("a ring of 30, from the last on", Ship(dots(*[[(k + 7) % 30] for k in range(30)])))
+    yield polygons("a ring of 30, each names the seventh after it", Ship(dots(*[[(k + 7) % 30] for k in range(30)])))
     yield polygons("a chain of 30, backwards", Ship(dots(*[[max(k - 1, 0)] for k in range(30)])))
 
 
@@ -563,7 +564,7 @@ def island_cases():
         ("all ones among others", [[ALL_ONES, 2], [ALL_ONES], [ALL_ONES, 0, ALL_ONES]]),
     ]:
         yield islands(name, Ship(dots(*lists)))
-    yield islands("a ring of 40", Ship(dots(*[[(k + 13) % 40] for k in range(40)])))
+    yield islands("a ring of 40, each names the thirteenth after it", Ship(dots(*[[(k + 13) % 40] for k in range(40)])))
     yield islands("a chain of 40 down", Ship(dots(*[[max(k - 1, 0)] for k in range(40)])))
     grid = seats.deck("0 0 2 0 4 0 0 2 2 2 4 2 9 9 9 8", [[0, 1, 4, 3], [1, 2, 5, 4], [6, 7, 7]])
     yield islands("vertices that polygons share", Ship(listed(grid, [0], [0, 1], [1], [0], [1, 0], [1], [2], [ALL_ONES])))
