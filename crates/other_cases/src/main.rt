@@ -103,6 +103,17 @@ fn run(q: Query, file: &[u8], blocked: &[u8], out: &mut [u8], work: &mut [u8]) -
     true
 }
 
+fn query_at(rest: &[u8], p: Vec2) -> Query
+    requires { ⌜ 36 ≤ length (now rest) ⌝ }
+{
+    Query {
+        call: rest[0],
+        p: p,
+        deck: u32_at(rest, 20),
+        number: u32_at(rest, 24),
+    }
+}
+
 // Takes the case at the start of `rest`, and answers how many bytes it has, or 0 if it is none.
 fn case(rest: &[u8]) -> usize
     ensures { λ r. ⌜ r ≤ length (now (rest .entry)) ⌝ }
@@ -117,21 +128,13 @@ fn case(rest: &[u8]) -> usize
     if end > rest.len() {
         return 0;
     }
-    if room > MOST_LENT {
-        return 0;
-    }
-    if work_length > MOST_LENT {
+    if room > MOST_LENT || work_length > MOST_LENT {
         return 0;
     }
     let Place::At(p) = place_at(rest, 12) else {
         return 0;
     };
-    let q = Query {
-        call: rest[0],
-        p: p,
-        deck: u32_at(rest, 20),
-        number: u32_at(rest, 24),
-    };
+    let q = query_at(rest, p);
     let file = &rest[HEAD..file_end];
     let blocked = &rest[file_end..end];
     let mut out = [FILL; MOST_LENT];
