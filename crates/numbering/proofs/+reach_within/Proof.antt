@@ -33,175 +33,61 @@ reach-within-Inv-midpoints file blocked table seat s count k a b m₀ m = Tried 
 abbrev reach-within-μ-midpoints : reach-within-lts.MeasureT-midpoints
 reach-within-μ-midpoints file blocked table seat s count k a b m₀ m = count - m
 
-reach-within-returns : (t : ℕ) → reach-within-lts.Need-returns (
-  touches-reads.Asked,
-  touches-reads.Learnt,
-  number-at-reads.Asked,
-  number-at-reads.Learnt,
-  reach-within-below t,
-  reach-within.Post,
-) (reach-within-at t) reach-within.Post reach-within-Inv-midpoints reach-within-μ-midpoints
+-- what the calls of the body ask and promise, its own below t among them
+abbrev reach-within-claims : ℕ → reach-within-lts.Claims
+reach-within-claims t =
+    (touches-reads.Asked, touches-reads.Learnt, number-at-reads.Asked, number-at-reads.Learnt, reach-within-below t, reach-within.Post)
+
+reach-within-returns : (t : ℕ) → reach-within-lts.Need-returns (reach-within-claims t) (reach-within-at t) reach-within.Post reach-within-Inv-midpoints reach-within-μ-midpoints
 reach-within-returns t c = search (halves, needs)
 
-reach-within-touches-requires : (t : ℕ) → reach-within-lts.Need-touches-requires (
-  touches-reads.Asked,
-  touches-reads.Learnt,
-  number-at-reads.Asked,
-  number-at-reads.Learnt,
-  reach-within-below t,
-  reach-within.Post,
-) (reach-within-at t) reach-within.Post reach-within-Inv-midpoints reach-within-μ-midpoints
+reach-within-touches-requires : (t : ℕ) → reach-within-lts.Need-touches-requires (reach-within-claims t) (reach-within-at t) reach-within.Post reach-within-Inv-midpoints reach-within-μ-midpoints
 reach-within-touches-requires t c κs = search (halves, needs)
 
-reach-within-returns-2 : (t : ℕ) → reach-within-lts.Need-returns-2 (
-  touches-reads.Asked,
-  touches-reads.Learnt,
-  number-at-reads.Asked,
-  number-at-reads.Learnt,
-  reach-within-below t,
-  reach-within.Post,
-) (reach-within-at t) reach-within.Post reach-within-Inv-midpoints reach-within-μ-midpoints
+reach-within-returns-2 : (t : ℕ) → reach-within-lts.Need-returns-2 (reach-within-claims t) (reach-within-at t) reach-within.Post reach-within-Inv-midpoints reach-within-μ-midpoints
 reach-within-returns-2 t c = search (halves, needs)
 
-reach-within-midpoints-holds : (t : ℕ) → reach-within-lts.Need-midpoints-holds (
-  touches-reads.Asked,
-  touches-reads.Learnt,
-  number-at-reads.Asked,
-  number-at-reads.Learnt,
-  reach-within-below t,
-  reach-within.Post,
-) (reach-within-at t) reach-within.Post reach-within-Inv-midpoints reach-within-μ-midpoints
+reach-within-midpoints-holds : (t : ℕ) → reach-within-lts.Need-midpoints-holds (reach-within-claims t) (reach-within-at t) reach-within.Post reach-within-Inv-midpoints reach-within-μ-midpoints
 reach-within-midpoints-holds t c = search (halves, needs)
 
-reach-within-add-m : (t : ℕ) → reach-within-lts.Need-add-m (
-  touches-reads.Asked,
-  touches-reads.Learnt,
-  number-at-reads.Asked,
-  number-at-reads.Learnt,
-  reach-within-below t,
-  reach-within.Post,
-) (reach-within-at t) reach-within.Post reach-within-Inv-midpoints reach-within-μ-midpoints
+reach-within-add-m : (t : ℕ) → reach-within-lts.Need-add-m (reach-within-claims t) (reach-within-at t) reach-within.Post reach-within-Inv-midpoints reach-within-μ-midpoints
 reach-within-add-m t c = search (halves, needs)
 
-reach-within-number-at-requires : (t : ℕ) → reach-within-lts.Need-number-at-requires (
-  touches-reads.Asked,
-  touches-reads.Learnt,
-  number-at-reads.Asked,
-  number-at-reads.Learnt,
-  reach-within-below t,
-  reach-within.Post,
-) (reach-within-at t) reach-within.Post reach-within-Inv-midpoints reach-within-μ-midpoints
+reach-within-number-at-requires : (t : ℕ) → reach-within-lts.Need-number-at-requires (reach-within-claims t) (reach-within-at t) reach-within.Post reach-within-Inv-midpoints reach-within-μ-midpoints
 reach-within-number-at-requires t c κs = search (halves, needs)
 
-reach-within-sub-reach-within : (t : ℕ) → reach-within-lts.Need-sub-reach-within (
-  touches-reads.Asked,
-  touches-reads.Learnt,
-  number-at-reads.Asked,
-  number-at-reads.Learnt,
-  reach-within-below t,
-  reach-within.Post,
-) (reach-within-at t) reach-within.Post reach-within-Inv-midpoints reach-within-μ-midpoints
+reach-within-sub-reach-within : (t : ℕ) → reach-within-lts.Need-sub-reach-within (reach-within-claims t) (reach-within-at t) reach-within.Post reach-within-Inv-midpoints reach-within-μ-midpoints
 reach-within-sub-reach-within t c = search (halves, needs)
 
-reach-within-reach-within-requires : (t : ℕ) → reach-within-lts.Need-reach-within-requires (
-  touches-reads.Asked,
-  touches-reads.Learnt,
-  number-at-reads.Asked,
-  number-at-reads.Learnt,
-  reach-within-below t,
-  reach-within.Post,
-) (reach-within-at t) reach-within.Post reach-within-Inv-midpoints reach-within-μ-midpoints
+reach-within-reach-within-requires : (t : ℕ) → reach-within-lts.Need-reach-within-requires (reach-within-claims t) (reach-within-at t) reach-within.Post reach-within-Inv-midpoints reach-within-μ-midpoints
 reach-within-reach-within-requires t c κs = search (halves, needs)
 
-reach-within-sub-reach-within-2 : (t : ℕ) → reach-within-lts.Need-sub-reach-within-2 (
-  touches-reads.Asked,
-  touches-reads.Learnt,
-  number-at-reads.Asked,
-  number-at-reads.Learnt,
-  reach-within-below t,
-  reach-within.Post,
-) (reach-within-at t) reach-within.Post reach-within-Inv-midpoints reach-within-μ-midpoints
+reach-within-sub-reach-within-2 : (t : ℕ) → reach-within-lts.Need-sub-reach-within-2 (reach-within-claims t) (reach-within-at t) reach-within.Post reach-within-Inv-midpoints reach-within-μ-midpoints
 reach-within-sub-reach-within-2 t c = search (halves, needs)
 
-reach-within-reach-within-requires-2 : (t : ℕ) → reach-within-lts.Need-reach-within-requires-2 (
-  touches-reads.Asked,
-  touches-reads.Learnt,
-  number-at-reads.Asked,
-  number-at-reads.Learnt,
-  reach-within-below t,
-  reach-within.Post,
-) (reach-within-at t) reach-within.Post reach-within-Inv-midpoints reach-within-μ-midpoints
+reach-within-reach-within-requires-2 : (t : ℕ) → reach-within-lts.Need-reach-within-requires-2 (reach-within-claims t) (reach-within-at t) reach-within.Post reach-within-Inv-midpoints reach-within-μ-midpoints
 reach-within-reach-within-requires-2 t c κs = search (halves, needs)
 
-reach-within-returns-3 : (t : ℕ) → reach-within-lts.Need-returns-3 (
-  touches-reads.Asked,
-  touches-reads.Learnt,
-  number-at-reads.Asked,
-  number-at-reads.Learnt,
-  reach-within-below t,
-  reach-within.Post,
-) (reach-within-at t) reach-within.Post reach-within-Inv-midpoints reach-within-μ-midpoints
+reach-within-returns-3 : (t : ℕ) → reach-within-lts.Need-returns-3 (reach-within-claims t) (reach-within-at t) reach-within.Post reach-within-Inv-midpoints reach-within-μ-midpoints
 reach-within-returns-3 t c = search (halves, needs)
 
-reach-within-midpoints-less : (t : ℕ) → reach-within-lts.Need-midpoints-less (
-  touches-reads.Asked,
-  touches-reads.Learnt,
-  number-at-reads.Asked,
-  number-at-reads.Learnt,
-  reach-within-below t,
-  reach-within.Post,
-) (reach-within-at t) reach-within.Post reach-within-Inv-midpoints reach-within-μ-midpoints
+reach-within-midpoints-less : (t : ℕ) → reach-within-lts.Need-midpoints-less (reach-within-claims t) (reach-within-at t) reach-within.Post reach-within-Inv-midpoints reach-within-μ-midpoints
 reach-within-midpoints-less t c = search (halves, needs)
 
-reach-within-midpoints-again : (t : ℕ) → reach-within-lts.Need-midpoints-again (
-  touches-reads.Asked,
-  touches-reads.Learnt,
-  number-at-reads.Asked,
-  number-at-reads.Learnt,
-  reach-within-below t,
-  reach-within.Post,
-) (reach-within-at t) reach-within.Post reach-within-Inv-midpoints reach-within-μ-midpoints
+reach-within-midpoints-again : (t : ℕ) → reach-within-lts.Need-midpoints-again (reach-within-claims t) (reach-within-at t) reach-within.Post reach-within-Inv-midpoints reach-within-μ-midpoints
 reach-within-midpoints-again t c = search (halves, needs)
 
-reach-within-midpoints-less-2 : (t : ℕ) → reach-within-lts.Need-midpoints-less-2 (
-  touches-reads.Asked,
-  touches-reads.Learnt,
-  number-at-reads.Asked,
-  number-at-reads.Learnt,
-  reach-within-below t,
-  reach-within.Post,
-) (reach-within-at t) reach-within.Post reach-within-Inv-midpoints reach-within-μ-midpoints
+reach-within-midpoints-less-2 : (t : ℕ) → reach-within-lts.Need-midpoints-less-2 (reach-within-claims t) (reach-within-at t) reach-within.Post reach-within-Inv-midpoints reach-within-μ-midpoints
 reach-within-midpoints-less-2 t c = search (halves, needs)
 
-reach-within-midpoints-again-2 : (t : ℕ) → reach-within-lts.Need-midpoints-again-2 (
-  touches-reads.Asked,
-  touches-reads.Learnt,
-  number-at-reads.Asked,
-  number-at-reads.Learnt,
-  reach-within-below t,
-  reach-within.Post,
-) (reach-within-at t) reach-within.Post reach-within-Inv-midpoints reach-within-μ-midpoints
+reach-within-midpoints-again-2 : (t : ℕ) → reach-within-lts.Need-midpoints-again-2 (reach-within-claims t) (reach-within-at t) reach-within.Post reach-within-Inv-midpoints reach-within-μ-midpoints
 reach-within-midpoints-again-2 t c = search (halves, needs)
 
-reach-within-returns-4 : (t : ℕ) → reach-within-lts.Need-returns-4 (
-  touches-reads.Asked,
-  touches-reads.Learnt,
-  number-at-reads.Asked,
-  number-at-reads.Learnt,
-  reach-within-below t,
-  reach-within.Post,
-) (reach-within-at t) reach-within.Post reach-within-Inv-midpoints reach-within-μ-midpoints
+reach-within-returns-4 : (t : ℕ) → reach-within-lts.Need-returns-4 (reach-within-claims t) (reach-within-at t) reach-within.Post reach-within-Inv-midpoints reach-within-μ-midpoints
 reach-within-returns-4 t c = search (halves, needs)
 
 pub +reach-within-spec : {M : Type 1} → statement M
-+reach-within-spec = close μ-reach-within λ t. reach-within-lts.spec (
-  touches-reads.Asked,
-  touches-reads.Learnt,
-  number-at-reads.Asked,
-  number-at-reads.Learnt,
-  reach-within-below t,
-  reach-within.Post,
-)
++reach-within-spec = close μ-reach-within λ t. reach-within-lts.spec (reach-within-claims t)
     (reach-within-at t)
     reach-within.Post
     reach-within-Inv-midpoints
