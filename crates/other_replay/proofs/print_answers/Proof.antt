@@ -1,9 +1,9 @@
--- `seats_cases::print_answers` is safe and ends: a case has at least one byte. Assumes nothing.
+-- `other_replay::print_answers` is safe and ends: a case has at least one byte. Assumes nothing.
 use Prim.Native.Nat.{_≤_, _-_}
 use lib.ListN.{length}
 use borrow.Author.Needs.{needs}
-use Rattle.seats_cases.proofs.print_answers.Statement.{statement}
-use Rattle.seats_cases.proofs.print_answers.Tie as tie
+use Rattle.other_replay.proofs.print_answers.Statement.{statement}
+use Rattle.other_replay.proofs.print_answers.Tie as tie
 
 abbrev Inv-cases : tie.InvT-cases
 Inv-cases input at₀ _ at = at ≤ length input

@@ -1,0 +1,142 @@
+// Runs stored cases of the calls of document 01, sections 5 to 7. The input is cases, one after the other. A case is the letter of its call in a word, the
+// call's lengths and numbers (all u32, little-endian; a float by its bit pattern), and then the bytes of the lengths:
+//   R, the run: file length, blocked length, seats length, output length
+//   P, the closest points, and Q, the closest point: file length, blocked length, x, y, deck, output length
+//   H, the height: file length, x, y, packed polygon, output length
+// The answer's lines are those of the crate `cases`. What is no case gives the one word `bad`, and nothing after it is read.
+ghost use Prim.Native.Nat.{_<_, _≤_};
+ghost use lib.ListN.{length};
+use cases::FILL;
+use cases::Place;
+use cases::place_at;
+use cases::print;
+use cases::print_answer;
+use geometry::Vec2;
+use words::size_at;
+use words::u32_at;
+
+const MOST_OUTPUT: usize = 4096;
+
+// ---- the calls, with their lines
+fn run(file: &[u8], blocked: &[u8], seats: &[u8], out: &mut [u8]) {
+    let answer = seats::run(file, blocked, seats, out);
+    print_answer(answer, 36, 36, out);
+}
+
+fn closest_points(file: &[u8], blocked: &[u8], p: Vec2, deck: u32, out: &mut [u8]) {
+    let answer = calls::get_closest_points_on_layers(file, p, deck, blocked, out);
+    print_answer(answer, 12, 12, out);
+}
+
+fn closest_point(file: &[u8], blocked: &[u8], p: Vec2, deck: u32, out: &mut [u8]) {
+    let answer = calls::get_closest_point_on_layers(file, p, deck, blocked, out);
+    print_answer(answer, 12, 12, out);
+}
+
+fn height(file: &[u8], p: Vec2, polygon: u32, out: &mut [u8]) {
+    let answer = calls::height(file, p, polygon, out);
+    print_answer(answer, 4, 4, out);
+}
+
+// ---- the cases. Each function takes the case at the start of `rest`, and answers how many bytes it has, or 0 if it is none.
+fn run_case(rest: &[u8]) -> usize
+    ensures { λ r. ⌜ r ≤ length (now (rest .entry)) ⌝ }
+{
+    if rest.len() < 20 {
+        return 0;
+    }
+    let file_end = 20 + size_at(rest, 4);
+    let blocked_end = file_end + size_at(rest, 8);
+    let end = blocked_end + size_at(rest, 12);
+    let room = size_at(rest, 16);
+    if end > rest.len() {
+        return 0;
+    }
+    if room > MOST_OUTPUT {
+        return 0;
+    }
+    let file = &rest[20..file_end];
+    let blocked = &rest[file_end..blocked_end];
+    let mut out = [FILL; MOST_OUTPUT];
+    run(file, blocked, &rest[blocked_end..end], &mut out[0..room]);
+    end
+}
+
+fn closest_case(rest: &[u8], first: bool) -> usize
+    ensures { λ r. ⌜ r ≤ length (now (rest .entry)) ⌝ }
+{
+    if rest.len() < 28 {
+        return 0;
+    }
+    let file_end = 28 + size_at(rest, 4);
+    let end = file_end + size_at(rest, 8);
+    let deck = u32_at(rest, 20);
+    let room = size_at(rest, 24);
+    if end > rest.len() {
+        return 0;
+    }
+    if room > MOST_OUTPUT {
+        return 0;
+    }
+    let Place::At(p) = place_at(rest, 12) else {
+        return 0;
+    };
+    let file = &rest[28..file_end];
+    let blocked = &rest[file_end..end];
+    let mut out = [FILL; MOST_OUTPUT];
+    if first {
+        closest_point(file, blocked, p, deck, &mut out[0..room]);
+    } else {
+        closest_points(file, blocked, p, deck, &mut out[0..room]);
+    }
+    end
+}
+
+fn height_case(rest: &[u8]) -> usize
+    ensures { λ r. ⌜ r ≤ length (now (rest .entry)) ⌝ }
+{
+    if rest.len() < 24 {
+        return 0;
+    }
+    let room = size_at(rest, 20);
+    if room > MOST_OUTPUT {
+        return 0;
+    }
+    let end = 24 + size_at(rest, 4);
+    if end > rest.len() {
+        return 0;
+    }
+    let polygon = u32_at(rest, 16);
+    let Place::At(p) = place_at(rest, 8) else {
+        return 0;
+    };
+    let mut out = [FILL; MOST_OUTPUT];
+    height(&rest[24..end], p, polygon, &mut out[0..room]);
+    end
+}
+
+fn case(rest: &[u8]) -> usize
+    requires { ⌜ 0 < length (now rest) ⌝ }
+    ensures { λ r. ⌜ r ≤ length (now (rest .entry)) ⌝ }
+{
+    match rest[0] {
+        b'R' => run_case(rest),
+        b'P' => closest_case(rest, false),
+        b'Q' => closest_case(rest, true),
+        b'H' => height_case(rest),
+        _ => 0,
+    }
+}
+
+// The answers to all cases.
+pub fn print_answers(input: &[u8]) {
+    let mut at: usize = 0;
+    'cases: while at < input.len() {
+        let length = case(&input[at..]);
+        if length == 0 {
+            print(b"bad\n");
+            return;
+        }
+        at += length;
+    }
+}
