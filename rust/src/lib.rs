@@ -32,6 +32,7 @@
 //! assert_eq!(ship.run(&BlockedDecks::new(), &[absent]), Err(Refusal(17)));
 //! # Ok::<(), Refusal>(())
 //! ```
+
 mod blocked;
 mod bytes;
 mod ffi;
