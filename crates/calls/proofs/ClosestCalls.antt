@@ -53,7 +53,7 @@ module _ (file : List ℕ) (p : Vec2) (deck : ℕ) (blocked : List ℕ) {seat : 
     file-passed = query-passed file p deck blocked said passed
 
     module _ (none : u ≡ true) where
-      no-points : closestPoints file p deck blocked ≡ []
+      pub no-points : closestPoints file p deck blocked ≡ []
       unfolding closestPoints
       no-points =
           nothing-found (seenBy file blocked (askedAt p deck)) (stepsIn file) record-is (omega (arith, decks-length file, decks-range file file-passed .1))
@@ -76,7 +76,7 @@ module _ (file : List ℕ) (p : Vec2) (deck : ℕ) (blocked : List ℕ) {seat : 
     step-found : Recorded (seenBy file blocked (askedAt p deck)) (stepsIn file) found
     step-found = recorded (seenBy file blocked (askedAt p deck)) (stepsIn file) record-is (sym asked ∙ some)
 
-    points-are : closestPoints file p deck blocked ≡ candidates (seenBy file blocked seat) (found .step)
+    pub points-are : closestPoints file p deck blocked ≡ candidates (seenBy file blocked seat) (found .step)
     unfolding closestPoints
     points-are = step-found .all ∙ rw is
 

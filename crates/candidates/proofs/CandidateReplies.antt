@@ -1,10 +1,13 @@
 -- The replies of `candidate_polygons`: a list of polygons as the answer, and which list it is in each case.
-use Prim.Native.Nat.{ℕ, _*_, _≤_, _<_}
+use Prim.Native.Nat.{ℕ, _*_, _^_, _≤_, _<_}
 use native.Mathlib.Omega.{arith}
 use mathlib.Core.Path.{_≡_, refl, sym, ap, _∙_, subst}
 use mathlib.Core.Bool.{Bool, true, false, not}
 use mathlib.Core.List.{List, [], _∷_, _++_, map}
-use lib.ListN.{length, drop, replicate}
+use mir.Syntax.{w64}
+use mir.Val.{Fits}
+use lib.IntN.{ℤ}
+use lib.ListN.{length, take, drop, replicate}
 use borrow.Author.Tests.{eq-eqb, ne-eqb}
 use Rattle.geometry.specs.declared.Vec2.{Vec2}
 use Rattle.words.specs.Bytes.{allOnes, bytes4, joined, wordsOf, splice}
@@ -22,8 +25,11 @@ use Rattle.ship.specs.Layout.{numberSize}
 use Rattle.ship.specs.Decode.{decode}
 use Rattle.touching.specs.Touching.{touches}
 use Rattle.touching.specs.Reach.{merged}
+use Rattle.touching.proofs.Reaching.{merged-few}
+use Rattle.survey.specs.declared.Seat.{Seat}
+use Rattle.numbering.specs.Numbers.{stepNumbers, stepMerged}
 use Rattle.candidates.specs.Candidates.{candidateCheck, givesNothing, foundPolygons, candidatePolygons, polygonTotal, candidatesWork, CandidatesWorked}
-use Rattle.candidates.specs.Written.{NumbersWorked, foundMerged}
+use Rattle.candidates.specs.Written.{NumbersWorked, ListFits, NumbersMerged, foundMerged}
 use Rattle.candidates.proofs.ListedNumbers.{length-words, splice-front}
 
 -- ---- a list of polygons
@@ -53,6 +59,33 @@ module _ (polygon : ℕ) (out : List ℕ) {work : List ℕ} {fits : Bool} (said 
   named-written room o z = numbers-written (polygon ∷ []) (named-room out said room) refl o z
 
 pub ruleset named = (none-written, named-short, named-room, named-written)
+
+-- ---- `put_staying`
+module _ {file blocked : List ℕ} {seat : Seat} {s : ℕ} {work work₁ : List ℕ} {stay : ℕ} (m : NumbersMerged file blocked seat s work work₁ stay)
+    {count : ℕ} {table : List ℤ} (f : ListFits file blocked table seat s count work) where
+  pub staying-inside : numberSize * stay ≤ length work₁
+  staying-inside = omega (arith, f .fits, f .counted .counts, m .count, m .long, merged-few (touches (decode file)) (stepNumbers file blocked seat s))
+
+  module _ (out : List ℕ) {fits : Bool} (said : fits ≡ question20 (numberSize * length (stepMerged file blocked seat s)) (length out)) where
+    pub staying-room : not fits ≡ false → numberSize * stay ≤ length out
+    staying-room room = rw (m .count) (q20-fits (numberSize * length (stepMerged file blocked seat s)) (length out) (said-yes said room))
+
+    pub staying-word : not fits ≡ false → length out < 2 ^ 64 → Fits w64 (numberSize * stay)
+    staying-word room l = record { fits = omega (arith, staying-room room) }
+
+    pub staying-written : not fits ≡ false → {out′ work′ : List ℕ} → out′ ≡ splice out 0 (take (numberSize * stay) work₁) → work′ ≡ replicate (length work₁) 0
+        → NumbersWorked (stepMerged file blocked seat s) out out′ work work′ (Wrote stay)
+    staying-written room o z =
+        numbers-written (stepMerged file blocked seat s) (q20-fits (numberSize * length (stepMerged file blocked seat s)) (length out) (said-yes said room)) (m .count)
+        (o ∙ ap (splice out 0) (m .first)) (z ∙ ap (λ (n : ℕ). replicate n 0) (m .long))
+
+pub staying-short : (file blocked : List ℕ) (seat : Seat) (s : ℕ) (out : List ℕ) {work : List ℕ} {fits : Bool}
+    → fits ≡ question20 (numberSize * length (stepMerged file blocked seat s)) (length out) → not fits ≡ true
+    → NumbersWorked (stepMerged file blocked seat s) out out work work (Refused 20)
+staying-short file blocked seat s out said no-room =
+    numbers-short (stepMerged file blocked seat s) (q20-short (numberSize * length (stepMerged file blocked seat s)) (length out) (said-no said no-room))
+
+pub ruleset staying = (staying-short, staying-inside, staying-room, staying-word, staying-written)
 
 -- ---- the call: its questions passed, and work is wide enough
 lifted : {polygons polygons′ : List ℕ} {check : Check} {wanted : ℕ} {out out′ work work′ : List ℕ} {r : Answer} → NumbersWorked polygons out out′ work work′ r

@@ -91,7 +91,14 @@ module _ {file blocked : List ℕ} {table : List ℤ} {seat : Seat} {s count : �
 
 pub ruleset listed = (list-fits, listed-ready, listed-merged)
 
--- ---- `merged_fits`
+-- ---- `count_staying`
+pub own-fits : {file blocked : List ℕ} {table : List ℤ} {seat : Seat} {s count : ℕ} {list : List ℕ} → StepCounted file blocked table seat s count
+    → count ≤ 16384 → length list ≡ 65536 → ListFits file blocked table seat s count list
+own-fits c few long = record { counted = c; fits = omega (arith, long) }
+
+pub ruleset own-list = (own-fits)
+
+-- ---- `staying_fit`
 module _ (file blocked : List ℕ) (seat : Seat) (s room : ℕ) where
   pub fits-all : {count : ℕ} {r : Bool} → count ≡ length (stepNumbers file blocked seat s) → r ≡ question20 (numberSize * count) room → r ≡ true
       → true ≡ question20 (numberSize * length (stepMerged file blocked seat s)) room

@@ -12,14 +12,18 @@ use Rattle.words.proofs.Writing.{length-bytes4, length-joined}
 use Rattle.answers.specs.declared.Answer.{Answer}
 use Rattle.answers.specs.Replies.{Replied, AnswerFits}
 use Rattle.answers.proofs.Replying.{replied-fits, replied-code, worked-code, worked-length}
+use Rattle.ship.specs.Decode.{decode}
 use Rattle.walking.specs.Sees.{shownBy}
 use Rattle.calls.specs.Closest.{pointOfParts, closestPoints, closestPoint, closestPointsReply, closestPointReply}
 use Rattle.calls.specs.HeightCall.{heightEntry, heightCall, heightReply}
 use Rattle.calls.proofs.EntryLoop.{length-candidates}
 use Rattle.locating.specs.declared.Location.{Location}
 use Rattle.locating.specs.Locating.{pointLayer, locationOf, locationCode, locatedCode, layerReply}
+use Rattle.candidates.specs.Candidates.{candidatePolygons, CandidatesWorked}
 use Rattle.islands.specs.Islands.{IslandsWorked}
 use Rattle.islands.proofs.IslandsCall.{islands-long}
+use Rattle.stitching.specs.Points.{stitchPoints, stitchPointsReply}
+use Rattle.stitching.proofs.Putting.{length-stitches}
 use Rattle.removal.proofs.Codes.{removal-fits}
 use Rattle.records.proofs.ReadBack.{records-length}
 use Rattle.seats.specs.Run.{runRecords, runReply}
@@ -45,14 +49,22 @@ layer-code file p deck h l = replied-fits h (omega (arith, length-joined bytes4 
 pub islands-code : (file : List ℕ) (deck : ℕ) {out out′ work work′ : List ℕ} {r : Answer} → IslandsWorked file deck out out′ work work′ r → length out < 2 ^ 64 → AnswerFits r
 islands-code file deck h l = replied-fits (h .replied) (omega (arith, islands-long file deck)) l
 
+pub candidates-code : (file : List ℕ) (p : Vec2) (deck polygon : ℕ) (blocked : List ℕ) {out out′ work work′ : List ℕ} {r : Answer}
+    → CandidatesWorked file p deck polygon blocked out out′ work work′ r → length out < 2 ^ 64 → AnswerFits r
+candidates-code file p deck polygon blocked h l =
+    replied-fits (h .replied) (omega (arith, length-joined bytes4 4 length-bytes4 (candidatePolygons file p deck polygon blocked))) l
+
+pub stitches-code : (file : List ℕ) {out out′ : List ℕ} {r : Answer} → Replied (stitchPointsReply file) out out′ r → length out < 2 ^ 64 → AnswerFits r
+stitches-code file h l = replied-fits h (omega (arith, length-stitches (stitchPoints (decode file)))) l
+
 pub location-is : (file : List ℕ) (x y : Float) (deck : ℕ) {l : Location} {z : ℤ} → l ≡ locationOf file (pointOfParts x y) deck → z ≡ locationCode l → z ≡ locatedCode file x y deck
 location-is file x y deck e f = f ∙ ap locationCode e
 
 pub ruleset location-codes = (location-is)
 
-pub ruleset codes = (points-code, point-code, height-code, layer-code, replied-code)
+pub ruleset codes = (points-code, point-code, height-code, layer-code, stitches-code, replied-code)
 
-pub ruleset work-codes = (islands-code, worked-code, worked-length)
+pub ruleset work-codes = (islands-code, candidates-code, worked-code, worked-length)
 
 pub ruleset removal-codes = (removal-fits, replied-code)
 
