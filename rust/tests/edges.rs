@@ -43,7 +43,7 @@ fn removal_once_and_twice() {
     let twice = once.remove_stitches().unwrap();
     assert_eq!(list_of(&twice), [OUTSIDE]);
     assert_eq!(twice.remove_stitches().unwrap(), twice);
-    assert_eq!((ship.file().len(), once.file().len(), twice.file().len()), (316, 312, 308));
+    assert_eq!((ship.file().len(), once.file().len(), twice.file().len()), (268, 264, 260));
 }
 
 #[test]

@@ -27,17 +27,8 @@ fn the_file_has_196_bytes() {
 
 #[test]
 fn record_by_record() {
-    let placed = |x, y, step, sample, tried| SeatRecord::Placed {
-        deck: 0,
-        polygon: 0,
-        x,
-        y,
-        height: Some(2.0),
-        step,
-        sample,
-        tried,
-        candidates: 1,
-    };
+    let placed =
+        |x, y, step, sample, tried| SeatRecord::Placed { deck: 0, polygon: 0, x, y, height: Some(2.0), step, sample, tried, candidates: 1 };
     let ship = Ship::new(example().file());
     let records = ship.run(&BlockedDecks::new(), &seats()).unwrap();
     assert_eq!(records, [placed(1.0, 1.0, 0, 0, 1), SeatRecord::Unplaced { tried: 12 }, placed(0.0, 2.0, 1, 5, 7)]);
@@ -51,11 +42,7 @@ fn the_records_bytes() {
     let mut out = [0; 3 * raw::RECORD_SIZE];
     assert_eq!(raw::run(&example().file(), &[0; 32], &seat_list(&seats()), &mut out), Ok(3));
     let (one, two) = (0x3F80_0000, 0x4000_0000);
-    let expected = [
-        [0, one, one, 1, two, 0, 0, 1, 1],
-        [OUTSIDE, 0, 0, 0, 0, 0, 0, 12, 0],
-        [0, 0, two, 1, two, 1, 5, 7, 1],
-    ];
+    let expected = [[0, one, one, 1, two, 0, 0, 1, 1], [OUTSIDE, 0, 0, 0, 0, 0, 0, 12, 0], [0, 0, two, 1, two, 1, 5, 7, 1]];
     assert_eq!(words(&out), expected.concat());
 }
 

@@ -53,9 +53,7 @@ pub const CALLS: [(&str, usize, Call); 11] = [
     ("height", 4, |file, out, _| raw::height(file, 1.0, 1.0, 0, out)),
     ("point_location", 0, |file, _, _| raw::point_location(file, 1.0, 1.0, ANY_DECK).map(|polygon| polygon as usize)),
     ("point_layer", 4, |file, out, _| raw::point_layer(file, 1.0, 1.0, ANY_DECK, out)),
-    ("candidate_polygons", 4, |file, out, work| {
-        raw::candidate_polygons(file, 1.0, 1.0, ANY_DECK, NO_POLYGON, &[0; 32], out, work)
-    }),
+    ("candidate_polygons", 4, |file, out, work| raw::candidate_polygons(file, 1.0, 1.0, ANY_DECK, NO_POLYGON, &[0; 32], out, work)),
     ("islands", 4, |file, out, work| raw::islands(file, 0, out, work)),
     ("stitch_points", 16, |file, out, _| raw::stitch_points(file, out)),
     ("remove_stitches", 1, |file, out, _| raw::remove_stitches(file, out)),
@@ -78,7 +76,7 @@ pub fn lend(name: &str, call: Call, file: &[u8], out: usize, work: usize) -> (Re
 /// Every call refuses the file with this number.
 pub fn refused_by_all(file: &[u8], number: u32) {
     for (name, _, call) in CALLS {
-        let room = 64 + file.len().min(4096);
+        let room = 4096;
         assert_eq!(lend(name, call, file, room, room).0, Err(Refusal(number)), "{name}");
     }
 }
@@ -86,7 +84,7 @@ pub fn refused_by_all(file: &[u8], number: u32) {
 /// No call refuses the file.
 pub fn passed_by_all(file: &[u8]) {
     for (name, _, call) in CALLS {
-        let room = 64 + file.len();
+        let room = 1 << 20;
         let answer = lend(name, call, file, room, room).0;
         assert!(answer.is_ok(), "{name}: {answer:?}");
     }
