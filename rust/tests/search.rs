@@ -162,7 +162,7 @@ fn located(plan: &ShipPlan, p: Point, deck: Option<u32>) -> Vec<PackedPolygon> {
         let first = |m: &Point| passing(&plan.decks[d], add(from, (m.0 * plan.reach, m.1 * plan.reach))).first().copied();
         PROBES.iter().find_map(first).map(|k| PackedPolygon::new(d as u8, k))
     };
-    (0..plan.decks.len()).filter(|&d| deck.map_or(true, |named| named as usize == d)).filter_map(on).collect()
+    (0..plan.decks.len()).filter(|&d| deck.is_none() || deck == Some(d as u32)).filter_map(on).collect()
 }
 
 /// Whether an edge of a has packed b in both ends' lists.
@@ -264,8 +264,8 @@ fn every_search() {
             assert_eq!(ship.get_point_layer(x, y, asked).unwrap(), layers, "{plan:?} {x} {y}");
             assert_eq!(ship.get_point_location(x, y, asked).unwrap(), layers.first().copied());
 
-            let open = asked.map_or(true, |d| d < decks && !blocked.contains(d as u8));
-            let list: Vec<_> = if open { found.iter().map(|c| c.polygon).collect() } else { vec![] };
+            let closed = |d| d >= decks || blocked.contains(d as u8);
+            let list: Vec<_> = if asked.map(closed) == Some(true) { vec![] } else { found.iter().map(|c| c.polygon).collect() };
             let merged = merged(&plan, &list);
             assert_eq!(ship.candidate_polygons(x, y, asked, None, &blocked).unwrap(), merged, "{plan:?} {x} {y}");
             several += u32::from(list.len() > 1);
