@@ -37,7 +37,8 @@ int main(void)
         if (r[0] == SEATS_NO_POLYGON)
             printf("%d none %u\n", i, r[7]);
         else
-            printf("%d placed %u %u %08X %08X %08X %u %u %u %u\n", i, r[0] >> 24, r[0] & 0xFFFFFF, r[1], r[2], r[4], r[5], r[6], r[7], r[8]);
+            printf("%d placed %u %u %08X %08X %08X %u %u %u %u\n", i, r[0] >> 24, r[0] & 0xFFFFFF, r[1], r[2], r[4], r[5],
+                   r[6], r[7], r[8]);
     }
     return 0;
 }
