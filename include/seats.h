@@ -12,7 +12,8 @@
  * - Not negative: how many entries it wrote at the front of out (removal: how many bytes). Output past them is left as it was,
  *   and work is all zeros.
  * - Negative: minus the number, 1 to 20, of the first question that the input does not pass. Nothing lent is altered.
- * - No memory is allocated and nothing is kept between calls, so calls may run in several threads.
+ * - No memory is allocated and nothing is kept between calls, so calls may run in several threads. A call takes up to some 80 KiB
+ *   of stack.
  *
  * file     a ship file
  * blocked  the decks left out of a search: SEATS_BLOCKED_SIZE bytes, deck d is bit d % 8 of byte d / 8, bit 0 the lowest
