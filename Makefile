@@ -1,6 +1,6 @@
 SHELL := bash
 .SHELLFLAGS := -o pipefail -c
-.PHONY: demo test compare bench
+.PHONY: demo test compare bench lib c-example rust-test
 
 # What `rt` says of each crate goes to standard error as it comes, and what the prover says only where the check fails.
 demo:
@@ -17,3 +17,28 @@ compare:
 
 bench:
 	compare/run bench
+
+# The proved library and its header, for C and Rust to link.
+lib:
+	@command -v rt >/dev/null || { echo "make: 'rt', the Rattle kit, is not on the PATH (README.md names its identity)" >&2; exit 2; }
+	@mkdir -p target/lib target/include
+	@rt staticlib seats 2>&1 | tee target/lib.log | sed -u -n '/^rt:/p' >&2 || { grep -v ': proved$$' target/lib.log >&2; exit 1; }
+	@cp target/staticlib/libseats.a target/lib/libseats.a
+	@cp include/seats.h target/include/seats.h
+	@echo "library: target/lib/libseats.a, header: target/include/seats.h"
+
+# Both use the library of the folder FEEDERCOIL_LIB, by default the one that `make lib` wrote.
+lib_folder = $(abspath $(or $(FEEDERCOIL_LIB),target/lib))
+have_lib = test -f "$(lib_folder)/libseats.a" || { echo "make: no libseats.a in $(lib_folder): run 'make lib' first" >&2; exit 2; }
+
+c-example:
+	@command -v $(CC) >/dev/null || { echo "make: '$(CC)', a C compiler, is not on the PATH" >&2; exit 2; }
+	@$(have_lib)
+	@mkdir -p target/examples
+	$(CC) -Wall -Wextra -Werror -std=c99 -Iinclude -o target/examples/seatrun examples/c/seatrun.c "$(lib_folder)/libseats.a"
+	target/examples/seatrun | diff examples/c/expected -
+
+rust-test:
+	@command -v cargo >/dev/null || { echo "make: 'cargo', of the Rust tools, is not on the PATH" >&2; exit 2; }
+	@$(have_lib)
+	cd rust && FEEDERCOIL_LIB="$(lib_folder)" cargo test --offline
