@@ -11,7 +11,7 @@ import sys
 import stored_cases
 
 ROOT = os.path.join(os.path.dirname(os.path.abspath(__file__)), "..")
-STATEMENTS = {"A": "crates/survey/specs/Survey.antt", "B": "crates/seats/specs/Survey.antt"}
+STATEMENTS = {"A": "crates/survey/specs/Survey.antt", "B": "crates/seat_run/specs/Survey.antt"}
 DOCUMENTS = ["README.md"] + ["docs/%s" % name for name in sorted(os.listdir(os.path.join(ROOT, "docs"))) if name.endswith(".md")]
 
 

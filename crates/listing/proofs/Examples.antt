@@ -22,8 +22,8 @@ use Rattle.survey.specs.Search.{turn, triedBefore, bestOf, firstStep, seatRecor
 use Rattle.survey.specs.Wishes.{choiceOf, isBlocked, isOpen, nearer}
 use Rattle.search.specs.OnDeck.{passesAt, heightOn}
 use Rattle.walking.specs.Sees.{sampleOn, placeOf, shownFrom}
-use Rattle.seats.specs.Run.{runCheck, seatRun}
-use Rattle.seats.specs.SeatFile.{seatAt, question14Seats, kindAllowed, question16Seat, seatCheck}
+use Rattle.seat_run.specs.Run.{runCheck, seatRun}
+use Rattle.seat_run.specs.SeatFile.{seatAt, question14Seats, kindAllowed, question16Seat, seatCheck}
 use Rattle.lines.specs.Text.{decimalFrom, decimal, hexFrom, hex}
 use Rattle.lines.specs.Lines.{noneFields, placedFields, seatLine, endLine, refusedLine}
 use Rattle.lines.specs.Input.{question21}

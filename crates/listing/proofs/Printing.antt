@@ -17,8 +17,8 @@ use Rattle.lines.specs.Input.{question21}
 use Rattle.lines.proofs.Lengths.{seat-long, end-long, refused-long}
 use Rattle.lines.proofs.Question21.{input-small}
 use Rattle.ship.specs.Decode.{decode}
-use Rattle.seats.specs.Run.{runCheck, runRecords}
-use Rattle.seats.proofs.RunRecords.{run-length}
+use Rattle.seat_run.specs.Run.{runCheck, runRecords}
+use Rattle.seat_run.proofs.RunRecords.{run-length}
 use Rattle.listing.specs.Listing.{fileIn, blockedIn, seatsIn, seatLines, placedIn, unplacedIn, runText, listText, seatlistText, textReply}
 use Rattle.listing.specs.Sizes.{mostSeats, seatsSize, longestText}
 use Rattle.listing.proofs.Texts.{prefix-long}

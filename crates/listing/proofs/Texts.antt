@@ -22,8 +22,8 @@ use Rattle.lines.specs.Input.{question21}
 use Rattle.words.proofs.Copying.{put-put}
 use Rattle.lines.proofs.Question21.{input-small}
 use Rattle.ship.specs.Decode.{decode}
-use Rattle.seats.specs.Run.{runRecords, runReply}
-use Rattle.seats.proofs.RunRecords.{run-length, reply-long}
+use Rattle.seat_run.specs.Run.{runRecords, runReply}
+use Rattle.seat_run.proofs.RunRecords.{run-length, reply-long}
 use Rattle.listing.specs.Listing.{seatsIn, seatLines, placedIn, unplacedIn, runText, listText, seatlistText, textReply}
 use Rattle.listing.specs.Sizes.{mostSeats, seatsSize, recordsSize, textSize, Written}
 use Rattle.listing.proofs.Records.{all-counted}

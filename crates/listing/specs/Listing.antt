@@ -12,8 +12,8 @@ use Rattle.records.specs.Record.{isUnplaced}
 use Rattle.lines.specs.Lines.{seatLine, endLine, refusedLine}
 use Rattle.lines.specs.Input.{question21}
 use Rattle.ship.specs.Decode.{decode}
-use Rattle.seats.specs.SeatFile.{seatsOf}
-use Rattle.seats.specs.Run.{runCheck, seatRun}
+use Rattle.seat_run.specs.SeatFile.{seatsOf}
+use Rattle.seat_run.specs.Run.{runCheck, seatRun}
 
 -- ---- the parts of an input: file length (u32), file, the 32 bytes of the blocked set, then seats to the end
 abbrev pub fileIn : List ℕ → List ℕ

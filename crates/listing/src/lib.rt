@@ -57,7 +57,7 @@ fn put_run(text: &mut [u8], records: &mut [u8], file: &[u8], blocked: &[u8], sea
     ensures { λ n. ⌜ Written (now (text .entry)) (listText (now (file .entry)) (now (blocked .entry)) (now (seats .entry)))
         (now (text .exit)) n ⌝ }
 {
-    match seats::run(file, blocked, seats, records) {
+    match seat_run::run(file, blocked, seats, records) {
         Answer::Refused(number) => lines::put_refused(text, 0, number),
         Answer::Wrote(count) => put_records(text, records, count),
     }

@@ -26,8 +26,8 @@ use Rattle.stitching.specs.Points.{stitchPoints, stitchPointsReply}
 use Rattle.stitching.proofs.Putting.{length-stitches}
 use Rattle.removal.proofs.Codes.{removal-fits}
 use Rattle.records.proofs.ReadBack.{records-length}
-use Rattle.seats.specs.Run.{runRecords, runReply}
-use Rattle.seats.proofs.SurveyTheorem.{surveyed-code}
+use Rattle.seat_run.specs.Run.{runRecords, runReply}
+use Rattle.seat_run.proofs.SurveyTheorem.{surveyed-code}
 
 module _ (file : List ℕ) (p : Vec2) (deck : ℕ) (blocked : List ℕ) {out out′ : List ℕ} {r : Answer} where
   pub points-code : Replied (closestPointsReply file p deck blocked) out out′ r → length out < 2 ^ 64 → AnswerFits r

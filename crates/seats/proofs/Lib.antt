@@ -1,8 +1,1 @@
-pub mod SeatReads
-pub mod SeatAsks
-pub mod SeatSurveys
-pub mod RunRecords
-pub mod SurveyTheorem
-pub mod RunLoop
 pub mod Codes
-pub mod Examples

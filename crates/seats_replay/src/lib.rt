@@ -19,7 +19,7 @@ const MOST_OUTPUT: usize = 4096;
 
 // ---- the calls, with their lines
 fn run(file: &[u8], blocked: &[u8], seats: &[u8], out: &mut [u8]) {
-    let answer = seats::run(file, blocked, seats, out);
+    let answer = seat_run::run(file, blocked, seats, out);
     print_answer(answer, 36, 36, out);
 }
 

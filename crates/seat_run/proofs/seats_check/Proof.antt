@@ -3,10 +3,10 @@ use Prim.Native.Nat.{_-_, _≤_}
 use mathlib.Core.Path.{_≡_}
 use borrow.Author.Needs.{needs}
 use Rattle.answers.proofs.Asking.{Checked}
-use Rattle.seats.specs.SeatFile.{seatCount, seatCheck}
-use Rattle.seats.proofs.SeatAsks.{seats-asks}
-use Rattle.seats.proofs.seats_check.Statement.{statement}
-use Rattle.seats.proofs.seats_check.Tie as tie
+use Rattle.seat_run.specs.SeatFile.{seatCount, seatCheck}
+use Rattle.seat_run.proofs.SeatAsks.{seats-asks}
+use Rattle.seat_run.proofs.seats_check.Statement.{statement}
+use Rattle.seat_run.proofs.seats_check.Tie as tie
 
 abbrev Inv-seats : tie.InvT-seats
 Inv-seats seats decks count i₀ i = (i ≤ count) × ((count ≡ seatCount seats) × Checked (seatCheck seats decks) count i)

@@ -15,7 +15,7 @@ use Rattle.ship.proofs.FloatBits.{size-within, in-size-not-nan}
 use Rattle.survey.specs.declared.DeckChoice.{DeckChoice}
 use Rattle.survey.specs.declared.Wish.the-variants.{NoWish, Wished}
 use Rattle.survey.specs.Wishes.{choiceOf}
-use Rattle.seats.specs.SeatFile.{seatWord, seatFloat, deckWord, kindWord, seatAt, kindAllowed, question16Seat}
+use Rattle.seat_run.specs.SeatFile.{seatWord, seatFloat, deckWord, kindWord, seatAt, kindAllowed, question16Seat}
 
 -- ---- `kind_allowed`
 module _ (kind height : ℕ) where

@@ -30,8 +30,8 @@ use Rattle.survey.proofs.SurveyHolds.{survey-holds}
 use Rattle.survey.proofs.SurveyUnique.{survey-unique}
 use Rattle.walking.specs.Sees.{seenBy, CandidateIn}
 use Rattle.walking.proofs.ShownLaws.{polygons-shown, polygons-few, candidate-within}
-use Rattle.seats.specs.SeatFile.{seatFloat, kindWord, seatAt, question16Seat}
-use Rattle.seats.proofs.SeatReads.{seat-floats}
+use Rattle.seat_run.specs.SeatFile.{seatFloat, kindWord, seatAt, question16Seat}
+use Rattle.seat_run.proofs.SeatReads.{seat-floats}
 
 -- ---- the distance from a wish to a height
 abbrev pub WishWithin : ℕ → Wish → Type 0

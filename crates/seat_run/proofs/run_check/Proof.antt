@@ -1,8 +1,8 @@
 -- `run_check` meets its contract.
 use borrow.Author.Needs.{needs}
-use Rattle.seats.proofs.SeatAsks.{run-asks}
-use Rattle.seats.proofs.run_check.Statement.{statement}
-use Rattle.seats.proofs.run_check.Tie as tie
+use Rattle.seat_run.proofs.SeatAsks.{run-asks}
+use Rattle.seat_run.proofs.run_check.Statement.{statement}
+use Rattle.seat_run.proofs.run_check.Tie as tie
 
 first-no-requires : tie.Need-first-no-requires
 first-no-requires c κs = search (run-asks, needs)

@@ -1,8 +1,8 @@
 -- `kind_allowed` meets its contract.
 use borrow.Author.Needs.{needs}
-use Rattle.seats.proofs.SeatReads.{kinds}
-use Rattle.seats.proofs.kind_allowed.Statement.{statement}
-use Rattle.seats.proofs.kind_allowed.Tie as tie
+use Rattle.seat_run.proofs.SeatReads.{kinds}
+use Rattle.seat_run.proofs.kind_allowed.Statement.{statement}
+use Rattle.seat_run.proofs.kind_allowed.Tie as tie
 
 returns : tie.Need-returns
 returns c = search (kinds, needs)

@@ -1,8 +1,8 @@
 -- `seat_check` meets its contract.
 use borrow.Author.Needs.{needs}
-use Rattle.seats.proofs.SeatAsks.{seat-asks}
-use Rattle.seats.proofs.seat_check.Statement.{statement}
-use Rattle.seats.proofs.seat_check.Tie as tie
+use Rattle.seat_run.proofs.SeatAsks.{seat-asks}
+use Rattle.seat_run.proofs.seat_check.Statement.{statement}
+use Rattle.seat_run.proofs.seat_check.Tie as tie
 
 seat-word-requires : tie.Need-seat-word-requires
 seat-word-requires c κs = search (seat-asks, needs)

@@ -19,7 +19,7 @@ use Rattle.ship.specs.Questions.{firstNo}
 use Rattle.survey.specs.declared.Seat.{Seat}
 use Rattle.survey.specs.Search.{seatRecord}
 use Rattle.walking.specs.Sees.{view}
-use Rattle.seats.specs.SeatFile.{seatCount, seatsOf, question14Seats, seatCheck}
+use Rattle.seat_run.specs.SeatFile.{seatCount, seatsOf, question14Seats, seatCheck}
 
 -- the questions of the run before 20, in their order; the seats' one seat after the other
 unfoldable pub runCheck : List ℕ → List ℕ → List ℕ → Check

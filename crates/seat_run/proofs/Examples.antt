@@ -27,8 +27,8 @@ use Rattle.survey.specs.Wishes.{choiceOf, isBlocked, isOpen, nearer}
 use Rattle.survey.specs.Search.{turn, triedBefore, bestOf, firstStep, seatRecord}
 use Rattle.search.specs.OnDeck.{passesAt, heightOn}
 use Rattle.walking.specs.Sees.{sampleOn, placeOf, shownFrom}
-use Rattle.seats.specs.SeatFile.{seatAt, seatsOf, question14Seats, kindAllowed, question16Seat, seatCheck}
-use Rattle.seats.specs.Run.{runCheck, seatRun, runReply}
+use Rattle.seat_run.specs.SeatFile.{seatAt, seatsOf, question14Seats, kindAllowed, question16Seat, seatCheck}
+use Rattle.seat_run.specs.Run.{runCheck, seatRun, runReply}
 
 -- L 1, reach 0.5, S 2, offset 0, the square (0,0) (4,0) (4,4) (0,4), heights 1 1 3 3, each N list [0, all ones]
 file : List ℕ

@@ -24,12 +24,12 @@ use Rattle.ship.specs.Decode.{decode}
 use Rattle.survey.specs.declared.Seat.{Seat}
 use Rattle.survey.specs.Search.{seatRecord}
 use Rattle.walking.specs.Sees.{seenBy, SearchReady}
-use Rattle.seats.specs.SeatFile.{seatAt, seatCount, question16Seat}
-use Rattle.seats.specs.Run.{runCheck, runRecords, runReply, RecordsReady, RecordsPut}
-use Rattle.seats.specs.Survey.{Surveyed}
-use Rattle.seats.proofs.SeatAsks.{RunPassed, run-yes, run-blocked, seat-yes16, seat-inside}
-use Rattle.seats.proofs.RunRecords.{run-at, run-length, reply-long}
-use Rattle.seats.proofs.SurveyTheorem.{surveyed}
+use Rattle.seat_run.specs.SeatFile.{seatAt, seatCount, question16Seat}
+use Rattle.seat_run.specs.Run.{runCheck, runRecords, runReply, RecordsReady, RecordsPut}
+use Rattle.seat_run.specs.Survey.{Surveyed}
+use Rattle.seat_run.proofs.SeatAsks.{RunPassed, run-yes, run-blocked, seat-yes16, seat-inside}
+use Rattle.seat_run.proofs.RunRecords.{run-at, run-length, reply-long}
+use Rattle.seat_run.proofs.SurveyTheorem.{surveyed}
 
 -- ---- `put_records`: the records of the seats below i stand in the output, and the others are left
 pub record Recording (file blocked : List ℕ) (table : List ℤ) (seats out₀ out : List ℕ) (i : ℕ) : Type 0 where

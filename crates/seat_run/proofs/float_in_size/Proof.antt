@@ -1,8 +1,8 @@
 -- `float_in_size` meets its contract.
 use borrow.Author.Needs.{needs}
-use Rattle.seats.proofs.SeatReads.{float-asked}
-use Rattle.seats.proofs.float_in_size.Statement.{statement}
-use Rattle.seats.proofs.float_in_size.Tie as tie
+use Rattle.seat_run.proofs.SeatReads.{float-asked}
+use Rattle.seat_run.proofs.float_in_size.Statement.{statement}
+use Rattle.seat_run.proofs.float_in_size.Tie as tie
 
 seat-word-requires : tie.Need-seat-word-requires
 seat-word-requires c κs = search (float-asked, needs)

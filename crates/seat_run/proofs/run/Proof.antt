@@ -1,8 +1,8 @@
 -- `run` meets its contract.
 use borrow.Author.Needs.{needs}
-use Rattle.seats.proofs.RunLoop.{running}
-use Rattle.seats.proofs.run.Statement.{statement}
-use Rattle.seats.proofs.run.Tie as tie
+use Rattle.seat_run.proofs.RunLoop.{running}
+use Rattle.seat_run.proofs.run.Statement.{statement}
+use Rattle.seat_run.proofs.run.Tie as tie
 
 run-check-requires : tie.Need-run-check-requires
 run-check-requires c κs = search (running, needs)

@@ -16,8 +16,8 @@ use Rattle.ship.specs.Model.{Ship}
 use Rattle.ship.specs.Decode.{decode}
 use Rattle.survey.specs.Search.{seatRecord}
 use Rattle.walking.specs.Sees.{view}
-use Rattle.seats.specs.SeatFile.{seatAt, seatCount, seatsOf}
-use Rattle.seats.specs.Run.{seatRun, runRecords, runReply}
+use Rattle.seat_run.specs.SeatFile.{seatAt, seatCount, seatsOf}
+use Rattle.seat_run.specs.Run.{seatRun, runRecords, runReply}
 
 module _ (ship : Ship) (blocked seats : List ℕ) where
   abbrev pub recordOfSeat : ℕ → SeatRecord

@@ -25,13 +25,13 @@ use Rattle.survey.specs.Search.{seatRecord}
 use Rattle.survey.specs.Survey.{SeatSurvey}
 use Rattle.survey.proofs.Steps.{steady}
 use Rattle.walking.specs.Sees.{sampleOn, placeOf, shownFrom, view}
-use Rattle.seats.specs.SeatFile.{seatAt, seatCount, seatsOf}
-use Rattle.seats.specs.Run.{runReply}
-use Rattle.seats.specs.Survey.{Each, Survey, Kept, Surveyed, SurveyedCode}
-use Rattle.seats.proofs.SeatReads.{seat-floats}
-use Rattle.seats.proofs.SeatAsks.{RunPassed, run-yes, run-passed, seat-yes16}
-use Rattle.seats.proofs.SeatSurveys.{wish-within, seat-surveyed, seat-once}
-use Rattle.seats.proofs.RunRecords.{recordOfSeat, run-length, reply-long, run-room, result-records, result-record, result-slice}
+use Rattle.seat_run.specs.SeatFile.{seatAt, seatCount, seatsOf}
+use Rattle.seat_run.specs.Run.{runReply}
+use Rattle.seat_run.specs.Survey.{Each, Survey, Kept, Surveyed, SurveyedCode}
+use Rattle.seat_run.proofs.SeatReads.{seat-floats}
+use Rattle.seat_run.proofs.SeatAsks.{RunPassed, run-yes, run-passed, seat-yes16}
+use Rattle.seat_run.proofs.SeatSurveys.{wish-within, seat-surveyed, seat-once}
+use Rattle.seat_run.proofs.RunRecords.{recordOfSeat, run-length, reply-long, run-room, result-records, result-record, result-slice}
 
 -- ---- two lists, element by element
 module _ {A B : Type 0} (R : A → B → Type 0) (f : ℕ → A) where

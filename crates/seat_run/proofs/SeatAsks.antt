@@ -16,8 +16,8 @@ use Rattle.answers.specs.Questions.{question14, question17}
 use Rattle.answers.proofs.Asking.{asking, said-no, said-yes, asked-yes, both-passed, each-passed, checking, blocked-32}
 use Rattle.ship.specs.Layout.{decksIn}
 use Rattle.ship.specs.Questions.{firstNo}
-use Rattle.seats.specs.SeatFile.{seatSize, seatCount, deckWord, kindWord, heightWord, kindAllowed, question14Seats, question15, question16Seat, seatCheck}
-use Rattle.seats.specs.Run.{runCheck}
+use Rattle.seat_run.specs.SeatFile.{seatSize, seatCount, deckWord, kindWord, heightWord, kindAllowed, question14Seats, question15, question16Seat, seatCheck}
+use Rattle.seat_run.specs.Run.{runCheck}
 
 -- ---- `seat_check`
 module _ (s : List ℕ) (i : ℕ) where

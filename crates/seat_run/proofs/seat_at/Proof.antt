@@ -1,8 +1,8 @@
 -- `seat_at` meets its contract.
 use borrow.Author.Needs.{needs}
-use Rattle.seats.proofs.SeatReads.{reads}
-use Rattle.seats.proofs.seat_at.Statement.{statement}
-use Rattle.seats.proofs.seat_at.Tie as tie
+use Rattle.seat_run.proofs.SeatReads.{reads}
+use Rattle.seat_run.proofs.seat_at.Statement.{statement}
+use Rattle.seat_run.proofs.seat_at.Tie as tie
 
 seat-float-requires : tie.Need-seat-float-requires
 seat-float-requires c κs = search (reads, needs)

@@ -1,8 +1,8 @@
 -- `floats_in_size` meets its contract.
 use borrow.Author.Needs.{needs}
-use Rattle.seats.proofs.SeatReads.{sizes}
-use Rattle.seats.proofs.floats_in_size.Statement.{statement}
-use Rattle.seats.proofs.floats_in_size.Tie as tie
+use Rattle.seat_run.proofs.SeatReads.{sizes}
+use Rattle.seat_run.proofs.floats_in_size.Statement.{statement}
+use Rattle.seat_run.proofs.floats_in_size.Tie as tie
 
 float-in-size-requires : tie.Need-float-in-size-requires
 float-in-size-requires c κs = search (sizes, needs)

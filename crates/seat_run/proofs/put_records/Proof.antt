@@ -2,10 +2,10 @@
 use Prim.Native.Nat.{_-_, _≤_}
 use mathlib.Core.Path.{_≡_}
 use borrow.Author.Needs.{needs}
-use Rattle.seats.specs.SeatFile.{seatCount}
-use Rattle.seats.proofs.RunLoop.{Recording, recording}
-use Rattle.seats.proofs.put_records.Statement.{statement}
-use Rattle.seats.proofs.put_records.Tie as tie
+use Rattle.seat_run.specs.SeatFile.{seatCount}
+use Rattle.seat_run.proofs.RunLoop.{Recording, recording}
+use Rattle.seat_run.proofs.put_records.Statement.{statement}
+use Rattle.seat_run.proofs.put_records.Tie as tie
 
 abbrev Inv-seats : tie.InvT-seats
 Inv-seats file blocked table seats out₀ count i₀ out i = (i ≤ count) × ((count ≡ seatCount seats) × Recording file blocked table seats out₀ out i)

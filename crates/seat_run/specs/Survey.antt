@@ -15,8 +15,8 @@ use Rattle.ship.specs.Decode.{decode, withStepsBytes}
 use Rattle.survey.specs.declared.Seat.{Seat}
 use Rattle.survey.specs.Survey.{SeatSurvey}
 use Rattle.walking.specs.Sees.{view}
-use Rattle.seats.specs.SeatFile.{seatsOf}
-use Rattle.seats.specs.Run.{runReply}
+use Rattle.seat_run.specs.SeatFile.{seatsOf}
+use Rattle.seat_run.specs.Run.{runReply}
 
 -- R holds of the two lists' elements, one by one, and the lists are equally long
 abbrev pub Each : {A B : Type 0} → (A → B → Type 0) → List A → List B → Type 0

@@ -1,0 +1,7 @@
+pub mod SeatReads
+pub mod SeatAsks
+pub mod SeatSurveys
+pub mod RunRecords
+pub mod SurveyTheorem
+pub mod RunLoop
+pub mod Examples
