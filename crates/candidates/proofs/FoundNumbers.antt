@@ -1,5 +1,5 @@
 -- The polygons around a point: from the record of the seat that asks to the numbers of its step, and the call over all cases.
-use Prim.Native.Nat.{ℕ, _*_, _≤_, _<_}
+use Prim.Native.Nat.{ℕ, _*_}
 use native.Mathlib.Omega.{arith}
 use mathlib.Core.Path.{_≡_, refl, sym, ap, _∙_}
 use mathlib.Core.Bool.{Bool, true, false, not}
@@ -20,14 +20,14 @@ use Rattle.ship.specs.Decode.{decode}
 use Rattle.survey.specs.declared.Seat.{Seat}
 use Rattle.survey.specs.Search.{seatRecord, candidates}
 use Rattle.walking.specs.Sees.{seenBy, SearchReady}
-use Rattle.calls.specs.Closest.{askedAt, queryCheck, closestPoints}
+use Rattle.calls.specs.Closest.{askedAt, closestPoints}
 use Rattle.calls.proofs.Queries.{query-ready}
 use Rattle.calls.proofs.ClosestCalls.{no-points, points-are, points-count, step-below}
 use Rattle.touching.specs.Touching.{touches}
 use Rattle.touching.specs.Reach.{merged}
 use Rattle.touching.proofs.Reaching.{merged-sound}
 use Rattle.numbering.specs.Numbers.{packedCandidate, stepNumbers, stepMerged}
-use Rattle.candidates.specs.Candidates.{candidateCheck, givesNothing, foundPolygons, candidatesWork, polygonTotal, CandidatesMerged}
+use Rattle.candidates.specs.Candidates.{candidateCheck, givesNothing, foundPolygons, polygonTotal, CandidatesMerged}
 use Rattle.candidates.specs.Written.{NumbersWorked, ListFits, FoundReady, foundMerged}
 use Rattle.candidates.proofs.CandidateAsks.{file-passed, blocked-long, query-asked}
 use Rattle.candidates.proofs.PolygonTotal.{numbers-few}

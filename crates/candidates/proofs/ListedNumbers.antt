@@ -2,14 +2,13 @@
 use Prim.Native.Nat.{ℕ, zero, suc, _+_, _*_, _/_, _%_, _≤_, _<_}
 use native.Mathlib.Omega.{arith}
 use native.Mathlib.Nat.{add-assoc}
-use mathlib.Core.Path.{_≡_, refl, sym, ap, _∙_, subst}
+use mathlib.Core.Path.{_≡_, sym, _∙_}
 use mathlib.Core.Bool.{Bool, true}
 use mathlib.Core.List.{List, [], _∷_, _++_}
 use lib.IntN.{ℤ}
 use lib.ListN.{length, getD, drop}
 use lib.Seq.{getD-append-add, ext-getD}
 use Rattle.words.specs.Bytes.{u32At, bytes4, joined, wordsOf, splice}
-use Rattle.words.specs.Rows.{rows}
 use Rattle.words.proofs.TableRows.{length-rows, getD-rows}
 use Rattle.words.proofs.Splice.{length-splice}
 use Rattle.words.proofs.Writing.{length-bytes4, length-joined}
@@ -18,8 +17,7 @@ use Rattle.answers.proofs.Asking.{q20-fits, q20-yes}
 use Rattle.ship.specs.Layout.{numberSize}
 use Rattle.ship.specs.Decode.{decode}
 use Rattle.survey.specs.declared.Seat.{Seat}
-use Rattle.touching.specs.Touching.{touches, PolygonThere}
-use Rattle.touching.specs.Reach.{merged}
+use Rattle.touching.specs.Touching.{touches}
 use Rattle.touching.proofs.Reaching.{merged-few}
 use Rattle.merging.specs.Merging.{numberAt, numbersIn, ListReady, ListMerged}
 use Rattle.numbering.specs.Numbers.{stepNumbers, stepMerged, StepCounted, NumbersFit}

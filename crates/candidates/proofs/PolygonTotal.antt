@@ -10,14 +10,13 @@ use mir.Val.{Fits}
 use lib.ListN.{length, length-map}
 use Rattle.words.specs.Rows.{sumOf, sumAll}
 use Rattle.words.proofs.Collecting.{sum-yes, sum-none}
-use Rattle.answers.specs.declared.Check.the-variants.{Passed}
 use Rattle.hits.specs.Candidates.{candidate}
 use Rattle.ship.specs.declared.Blocks.{Blocks}
 use Rattle.ship.specs.Layout.{decksIn, blocksAt}
 use Rattle.ship.specs.Model.{Deck, deckOf}
-use Rattle.ship.specs.Decode.{decode, deckAt}
-use Rattle.ship.specs.Questions.{firstNo, DeckOfPassed}
-use Rattle.ship.proofs.Facts.{sound, decks-range}
+use Rattle.ship.specs.Decode.{decode}
+use Rattle.ship.specs.Questions.{DeckOfPassed}
+use Rattle.ship.proofs.Facts.{sound}
 use Rattle.ship.proofs.ModelFacts.{deck-of, decks-length, polygons-length}
 use Rattle.survey.specs.declared.Seat.{Seat}
 use Rattle.survey.specs.View.{View}

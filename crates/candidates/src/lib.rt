@@ -1,14 +1,13 @@
 // The polygons that a point may be on (document 01, section 8, `candidate_polygons`).
 ghost use mathlib.Core.Path.{_≡_};
 ghost use mathlib.Core.List.{[], _∷_};
-ghost use Prim.Native.Nat.{_*_, _≤_};
+ghost use Prim.Native.Nat.{_*_};
 ghost use lib.ListN.{length};
 ghost use Rattle.answers.specs.declared.Check.the-variants.{Passed};
 ghost use Rattle.answers.specs.Questions.{question20};
 ghost use Rattle.ship.specs.Layout.{numberSize};
 ghost use Rattle.ship.specs.Questions.{firstNo};
 ghost use Rattle.numbering.specs.Numbers.{stepMerged, StepCounted};
-ghost use Rattle.merging.specs.Merging.{ListReady, ListMerged};
 ghost use Rattle.candidates.specs.Candidates.{candidateCheck, givesNothing, polygonTotal, CandidatesWorked, CandidatesMerged};
 ghost use Rattle.candidates.specs.Written.{NumbersWorked, ListFits, NumbersMerged, FoundReady, foundMerged};
 use answers::Answer;

@@ -7,7 +7,7 @@ use Rattle.words.specs.Rows.{rows, some, has}
 use Rattle.ship.specs.Model.{neighboursOf, cornersOf}
 use Rattle.islands.specs.Labels.{first, through, labelBy, labelsBy}
 use Rattle.islands.specs.Islands.{names, deckLabels}
-use Rattle.removal.specs.Removal.{keeps, writtenAs, keptOf, removed}
+use Rattle.unstitched.specs.Removal.{keeps, writtenAs, keptOf, removed}
 use Rattle.edges.specs.Table.{EdgesOfTheBehaviour}
 
 pub edges-of-the-behaviour : EdgesOfTheBehaviour

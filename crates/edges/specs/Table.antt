@@ -2,7 +2,7 @@
 use Prim.Native.Nat.{ℕ}
 use mathlib.Core.Path.{_≡_}
 use mathlib.Core.List.{List, [], _∷_}
-use mathlib.Core.Bool.{Bool, true, false}
+use mathlib.Core.Bool.{true, false}
 use lib.IntN.{pos}
 use lib.Ieee.{Float, binary32, ofInt, round}
 use Rattle.geometry.specs.declared.Vec2.{Vec2}
@@ -11,8 +11,8 @@ use Rattle.words.specs.Bytes.{allOnes}
 use Rattle.ship.specs.Model.{Vertex, Deck, Ship, noPoint, noDeck, neighboursOf, deckOf}
 use Rattle.ship.specs.Packed.{packedOf, packedDeck, packedPolygon}
 use Rattle.islands.specs.Islands.{deckLabels}
-use Rattle.removal.specs.declared.Stitches.the-variants.{All}
-use Rattle.removal.specs.Removal.{removed}
+use Rattle.unstitched.specs.declared.Stitches.the-variants.{All}
+use Rattle.unstitched.specs.Removal.{removed}
 
 -- ---- polygons
 abbrev point : Float → Float → Vec2

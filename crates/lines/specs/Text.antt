@@ -1,11 +1,8 @@
 -- Numbers and words as ASCII bytes.
 use Prim.Native.Nat.{ℕ, zero, suc, _+_, _/_, _%_}
-use mathlib.Core.Path.{_≡_}
 use mathlib.Core.Bool.{cond}
 use mathlib.Core.List.{List, [], _∷_}
 use lib.Dec.{ltb}
-use lib.ListN.{length}
-use Rattle.words.specs.Bytes.{splice}
 
 -- n's decimal digits, and then rest; the fuel is more digits than n has
 unfoldable pub decimalFrom : ℕ → ℕ → List ℕ → List ℕ

@@ -2,7 +2,7 @@
 ghost use mathlib.Core.Path.{_≡_};
 ghost use Prim.Native.Nat.{_*_, _<_, _≤_};
 ghost use lib.ListN.{length, take};
-ghost use Rattle.words.specs.Bytes.{wordsOf, splice};
+ghost use Rattle.words.specs.Bytes.{wordsOf};
 ghost use Rattle.answers.specs.declared.Check.the-variants.{Passed};
 ghost use Rattle.ship.specs.Layout.{decksIn};
 ghost use Rattle.ship.specs.Decode.{decode, deckAt};

@@ -8,8 +8,8 @@ use Rattle.answers.specs.declared.Answer.{Answer}
 use Rattle.answers.specs.declared.Answer.the-variants.{Refused, Wrote}
 use Rattle.answers.specs.Replies.{AnswerFits}
 use Rattle.answers.proofs.Replying.{wrote-check, wrote-count}
-use Rattle.removal.specs.declared.Stitches.{Stitches}
-use Rattle.removal.specs.NewFile.{RemovalReplied}
+use Rattle.unstitched.specs.declared.Stitches.{Stitches}
+use Rattle.unstitched.specs.NewFile.{RemovalReplied}
 
 -- `length out * 1` is what a slice of bytes is known by
 pub removal-fits : (which : Stitches) (file : List ℕ) {out out′ : List ℕ} {r : Answer} → RemovalReplied which file out out′ r → length out * 1 < 2 ^ 63 → AnswerFits r

@@ -14,13 +14,13 @@ use Rattle.ship.specs.declared.Blocks.{Blocks}
 use Rattle.ship.specs.Layout.{numberSize, headerSize, deckRowSize, decksIn, blocksPosition, blocksAt}
 use Rattle.ship.specs.Questions.{firstNo, DeckOfPassed}
 use Rattle.ship.proofs.Facts.{sound}
-use Rattle.removal.specs.declared.Stitches.{Stitches}
-use Rattle.removal.specs.NewFile.{newV, newN, newBlocks}
-use Rattle.removal.specs.Parts.{PartReady, restSize, restOf, DeckReady, allBlocks, FileReady}
+use Rattle.unstitched.specs.declared.Stitches.{Stitches}
+use Rattle.unstitched.specs.NewFile.{newV, newN, newBlocks, restSize, restOf, allBlocks}
+use Rattle.removal.specs.Parts.{PartReady, DeckReady, FileReady}
 use Rattle.removal.proofs.PutLoop.{PiecesPut, pieces-all, pieces-none, pieces-room, pieces-yes}
-use Rattle.removal.proofs.OldPlaces.{deck-laid}
-use Rattle.removal.proofs.Pieces.{slice-length}
-use Rattle.removal.proofs.NewPlaces.{blocksIn, parts-length}
+use Rattle.unstitched.proofs.OldPlaces.{deck-laid}
+use Rattle.unstitched.proofs.Pieces.{slice-length}
+use Rattle.unstitched.proofs.NewPlaces.{blocksIn, parts-length}
 
 -- ---- `put_rest`
 module _ {s : List ℕ} {b : Blocks} {out : List ℕ} {at : ℕ} (h : PartReady s b (restOf s b) out at) where

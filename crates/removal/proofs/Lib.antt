@@ -1,14 +1,3 @@
-pub mod Pieces
-pub mod Chains
-pub mod Pairs
-pub mod OldPlaces
-pub mod NewDeck
-pub mod NewPlaces
-pub mod KeptLists
-pub mod DeckAnew
-pub mod SoundRemoval
-pub mod Examples
-pub mod Entries
 pub mod PutLoop
 pub mod NeighbourLoop
 pub mod Vertices

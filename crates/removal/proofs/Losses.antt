@@ -15,13 +15,13 @@ use Rattle.ship.specs.declared.Blocks.{Blocks}
 use Rattle.ship.specs.Layout.{numberSize, blocksPerDeck, decksIn, blocksPosition, extentAt, blockAt, rowPosition, pairSize, blocksAt}
 use Rattle.ship.specs.Questions.{firstNo, DeckOfPassed}
 use Rattle.ship.proofs.Facts.{sound}
-use Rattle.removal.specs.declared.Stitches.{Stitches}
-use Rattle.removal.specs.NewFile.{keptFrom, newLengths, newFile}
-use Rattle.removal.specs.Parts.{allBlocks, blockLengths, LostInBlock, LostInDeck}
-use Rattle.removal.proofs.Entries.{kept-few}
-use Rattle.removal.proofs.OldPlaces.{blockStart, block-first, block-end, Laid, laid, deck-start, deck-end, counts, count-is}
-use Rattle.removal.proofs.NewDeck.{blocks-length}
-use Rattle.removal.proofs.NewPlaces.{blocksIn, lengths-length, parts-length}
+use Rattle.unstitched.specs.declared.Stitches.{Stitches}
+use Rattle.unstitched.specs.NewFile.{keptFrom, newLengths, newFile, allBlocks, blockLengths}
+use Rattle.removal.specs.Parts.{LostInBlock, LostInDeck}
+use Rattle.unstitched.proofs.Entries.{kept-few}
+use Rattle.unstitched.proofs.OldPlaces.{blockStart, block-first, block-end, Laid, laid, deck-start, deck-end, counts, count-is}
+use Rattle.unstitched.proofs.NewDeck.{blocks-length}
+use Rattle.unstitched.proofs.NewPlaces.{blocksIn, lengths-length, parts-length}
 
 -- ---- `lost_in_deck`
 module _ {s : List ℕ} {b : Blocks} (deck : DeckOfPassed s b) where

@@ -13,9 +13,9 @@ use Rattle.words.proofs.Writing.{length-bytes4}
 use Rattle.ship.specs.declared.Blocks.{Blocks}
 use Rattle.ship.specs.Layout.{numberSize, neighbourEntry}
 use Rattle.ship.proofs.Facts.{sound}
-use Rattle.removal.specs.declared.Stitches.{Stitches}
-use Rattle.removal.specs.Removal.{keeps, writtenAs, keptOf}
-use Rattle.removal.specs.NewFile.{keptFrom, newN}
+use Rattle.unstitched.specs.declared.Stitches.{Stitches}
+use Rattle.unstitched.specs.Removal.{keeps, writtenAs, keptOf}
+use Rattle.unstitched.specs.NewFile.{keptFrom, newN}
 use Rattle.removal.specs.Parts.{PartReady}
 use Rattle.removal.proofs.PutLoop.{PiecesPut, pieces-all, pieces-none, pieces-no, pieces-room, pieces-yes}
 

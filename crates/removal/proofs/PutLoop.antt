@@ -1,16 +1,15 @@
 -- A loop that puts pieces of any lengths into the output, one after the other, for those of the numbers below n that pass a test.
 use Prim.Native.Nat.{ℕ, _+_, _-_, _≤_, _<_}
 use native.Mathlib.Omega.{arith}
-use native.Mathlib.Nat.{add-assoc}
 use mathlib.Core.Path.{_≡_, refl, sym, ap, _∙_}
 use mathlib.Core.Bool.{Bool, true, false}
-use mathlib.Core.List.{List, _++_}
+use mathlib.Core.List.{List}
 use lib.ListN.{length, length-append}
 use Rattle.words.specs.Bytes.{splice, slice, Put}
 use Rattle.words.specs.Rows.{collect}
 use Rattle.words.proofs.Splice.{length-splice, splice-splice, splice-nil}
 use Rattle.words.proofs.Collecting.{collect-yes, collect-no, collect-none}
-use Rattle.removal.proofs.Pieces.{slice-length}
+use Rattle.unstitched.proofs.Pieces.{slice-length}
 
 -- what all pieces write is what those from i on write into what stands there now
 pub record PiecesPut (p : ℕ → Bool) (f : ℕ → List ℕ) (n : ℕ) (out₀ : List ℕ) (at₀ : ℕ) (out : List ℕ) (at i : ℕ) : Type 0 where

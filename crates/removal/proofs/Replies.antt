@@ -14,10 +14,10 @@ use Rattle.answers.proofs.Replying.{replied-refused, replied-short, replied-wri
 use Rattle.ship.specs.Layout.{headerSize, blocksPosition}
 use Rattle.ship.specs.Questions.{firstNo}
 use Rattle.ship.proofs.Facts.{header-there}
-use Rattle.removal.specs.declared.Stitches.{Stitches}
-use Rattle.removal.specs.NewFile.{newTable, newFile, RemovalReplied}
-use Rattle.removal.specs.Parts.{allBlocks, FileReady}
-use Rattle.removal.proofs.NewPlaces.{header-length, front-length, parts-length}
+use Rattle.unstitched.specs.declared.Stitches.{Stitches}
+use Rattle.unstitched.specs.NewFile.{newTable, newFile, RemovalReplied, allBlocks}
+use Rattle.removal.specs.Parts.{FileReady}
+use Rattle.unstitched.proofs.NewPlaces.{header-length, front-length, parts-length}
 
 -- ---- `put_file`
 three-parts : (out a b c : List ℕ) (n m : ℕ) → n ≡ 0 + length a → m ≡ 0 + length (a ++ b) → length (a ++ b) ≤ length out

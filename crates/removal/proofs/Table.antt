@@ -16,11 +16,11 @@ use Rattle.ship.specs.Layout.{headerSize, pairSize, blocksPerDeck, decksIn, blo
 use Rattle.ship.specs.Questions.{firstNo}
 use Rattle.ship.proofs.Passed.{passed-header}
 use Rattle.ship.proofs.Inside.{table-there}
-use Rattle.removal.specs.declared.Stitches.{Stitches}
-use Rattle.removal.specs.NewFile.{pairs, newTable}
-use Rattle.removal.specs.Parts.{FileReady, blockLengths, LostInBlock}
-use Rattle.removal.proofs.OldPlaces.{blockStart, block-first, block-next, block-here}
-use Rattle.removal.proofs.NewPlaces.{all-lengths, parts-length}
+use Rattle.unstitched.specs.declared.Stitches.{Stitches}
+use Rattle.unstitched.specs.NewFile.{pairs, newTable, blockLengths}
+use Rattle.removal.specs.Parts.{FileReady, LostInBlock}
+use Rattle.unstitched.proofs.OldPlaces.{blockStart, block-first, block-next, block-here}
+use Rattle.unstitched.proofs.NewPlaces.{all-lengths, parts-length}
 
 two-words : (a n : ℕ) (rest : List ℕ) → wordsOf (a ∷ n ∷ rest) ≡ wordsOf (a ∷ n ∷ []) ++ wordsOf rest
 unfolding joined bytes4

@@ -16,15 +16,15 @@ use Rattle.ship.specs.declared.Extent.{Extent}
 use Rattle.ship.specs.Layout.{numberSize, deckOffsetSize, vertexSize, listInVertex, vertexPosition, neighbourExtent}
 use Rattle.ship.specs.Questions.{DeckOfPassed}
 use Rattle.ship.proofs.Facts.{sound}
-use Rattle.removal.specs.declared.Stitches.{Stitches}
-use Rattle.removal.specs.NewFile.{keptFrom, newVertex, newV}
-use Rattle.removal.specs.Parts.{PartReady, newExtent, ListReady, ListPut}
-use Rattle.removal.proofs.Entries.{kept-join, kept-few}
+use Rattle.unstitched.specs.declared.Stitches.{Stitches}
+use Rattle.unstitched.specs.NewFile.{keptFrom, newVertex, newV, newExtent}
+use Rattle.removal.specs.Parts.{PartReady, ListReady, ListPut}
+use Rattle.unstitched.proofs.Entries.{kept-join, kept-few}
 use Rattle.removal.proofs.PutLoop.{PiecesPut, pieces-all, pieces-none, pieces-room, pieces-yes}
-use Rattle.removal.proofs.Pieces.{slice-length}
-use Rattle.removal.proofs.Chains.{startOf, start-here, start-first, start-next}
-use Rattle.removal.proofs.OldPlaces.{lists-chain, deck-laid}
-use Rattle.removal.proofs.NewDeck.{vertex-length}
+use Rattle.unstitched.proofs.Pieces.{slice-length}
+use Rattle.unstitched.proofs.Chains.{startOf, start-here, start-first, start-next}
+use Rattle.unstitched.proofs.OldPlaces.{lists-chain, deck-laid}
+use Rattle.unstitched.proofs.NewDeck.{vertex-length}
 
 -- ---- `put_list`
 module _ {which : Stitches} {s : List ℕ} {d : ℕ} {b : Blocks} {i start : ℕ} {out : List ℕ} {at : ℕ} (h : ListReady which s d b i start out at)

@@ -1,16 +1,15 @@
 -- What the inner functions of a removal need and promise: parts of the new file put into the output, and bytes that are left out.
 use Prim.Native.Nat.{ℕ, _+_, _*_, _≤_, _<_}
 use mathlib.Core.Path.{_≡_}
-use mathlib.Core.List.{List, [], _∷_}
+use mathlib.Core.List.{List}
 use lib.ListN.{length, getD}
-use Rattle.words.specs.Bytes.{slice, splice}
-use Rattle.words.specs.Rows.{collectAll}
+use Rattle.words.specs.Bytes.{splice}
 use Rattle.answers.specs.declared.Check.the-variants.{Passed}
 use Rattle.ship.specs.declared.Blocks.{Blocks}
 use Rattle.ship.specs.Layout.{numberSize, pairSize, vertexSize, firstList, decksIn, blocksAt, blockAt, neighbourExtent}
 use Rattle.ship.specs.Questions.{firstNo, DeckOfPassed}
-use Rattle.removal.specs.declared.Stitches.{Stitches}
-use Rattle.removal.specs.NewFile.{keptFrom, newBlocks, newLengths, newFile}
+use Rattle.unstitched.specs.declared.Stitches.{Stitches}
+use Rattle.unstitched.specs.NewFile.{keptFrom, newBlocks, blockLengths, newFile}
 
 -- ---- a part of the new file
 -- what a function needs that puts a part of deck b's blocks there
@@ -18,22 +17,11 @@ pub record PartReady (s : List ℕ) (b : Blocks) (bytes out : List ℕ) (at : �
   pub deck : DeckOfPassed s b
   pub room : at + length bytes ≤ length out
 
--- P, C and H, as they stand
-abbrev pub restSize : Blocks → ℕ
-restSize b = pairSize * b .polygons + numberSize * b .corners + numberSize * b .heights
-
-abbrev pub restOf : List ℕ → Blocks → List ℕ
-restOf s b = slice s (b .p) (restSize b)
-
 -- what a function needs that puts all blocks of deck d
 pub record DeckReady (which : Stitches) (s : List ℕ) (d : ℕ) (out : List ℕ) (at : ℕ) : Type 0 where
   pub passed : firstNo s ≡ Passed
   pub there : d < decksIn s
   pub room : at + length (newBlocks which s d (blocksAt s d)) ≤ length out
-
--- the blocks of all decks
-unfoldable pub allBlocks : Stitches → List ℕ → List ℕ
-allBlocks which s = collectAll (λ d. newBlocks which s d (blocksAt s d)) 0 (decksIn s)
 
 -- what a function needs that puts the whole file, or its table or its blocks where they stand in it
 pub record FileReady (which : Stitches) (s out : List ℕ) : Type 0 where
@@ -41,13 +29,6 @@ pub record FileReady (which : Stitches) (s out : List ℕ) : Type 0 where
   pub room : length (newFile which s) ≤ length out
 
 -- ---- a vertex
--- start and count of its list in the new N
-abbrev pub newExtent : Stitches → List ℕ → ℕ → Blocks → ℕ → List ℕ
-newExtent which s d b i =
-    length (keptFrom which s d b 0 (neighbourExtent s b i .start))
-    ∷ length (keptFrom which s d b (neighbourExtent s b i .start) (neighbourExtent s b i .count))
-    ∷ []
-
 -- what a function needs that puts them at a position: its list begins at `start`
 pub record ListReady (which : Stitches) (s : List ℕ) (d : ℕ) (b : Blocks) (i start : ℕ) (out : List ℕ) (at : ℕ) : Type 0 where
   pub row-inside : b .v + firstList + vertexSize * i + pairSize ≤ length s
@@ -61,10 +42,6 @@ pub record ListPut (which : Stitches) (s : List ℕ) (d : ℕ) (b : Blocks) (i :
   pub next-is : next ≡ length (keptFrom which s d b 0 (neighbourExtent s b i .start + neighbourExtent s b i .count))
 
 -- ---- bytes left out
--- the lengths of all blocks of the new file, in the table's order
-abbrev pub blockLengths : Stitches → List ℕ → List ℕ
-blockLengths which s = collectAll (λ d. newLengths which s d (blocksAt s d)) 0 (decksIn s)
-
 -- block j has so many bytes less than it had
 pub record LostInBlock (which : Stitches) (s : List ℕ) (j less : ℕ) : Type 0 where
   pub is : blockAt s j .count ≡ getD (blockLengths which s) j 0 + less

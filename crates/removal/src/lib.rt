@@ -4,12 +4,11 @@ ghost use Prim.Native.Nat.{_+_, _*_, _≤_, _<_};
 ghost use lib.ListN.{length};
 ghost use Rattle.words.specs.Bytes.{wordsOf, slice, splice, Put};
 ghost use Rattle.answers.specs.declared.Check.the-variants.{Passed};
-ghost use Rattle.ship.specs.Layout.{numberSize, headerSize, blocksPerDeck, listInVertex, decksIn, blocksPosition, blocksAt};
+ghost use Rattle.ship.specs.Layout.{headerSize, blocksPerDeck, listInVertex, decksIn, blocksPosition, blocksAt};
 ghost use Rattle.ship.specs.Questions.{firstNo};
-ghost use Rattle.removal.specs.declared.Stitches.the-variants.{All, ToLayer};
-ghost use Rattle.removal.specs.Removal.{plainIn, keeps, writtenAs};
-ghost use Rattle.removal.specs.NewFile.{keptFrom, newVertex, newV, newN, newBlocks, newTable, newFile, RemovalReplied, RemovalSound};
-ghost use Rattle.removal.specs.Parts.{PartReady, restOf, DeckReady, allBlocks, FileReady, newExtent, ListReady, ListPut, LostInBlock, LostInDeck};
+ghost use Rattle.unstitched.specs.declared.Stitches.the-variants.{All, ToLayer};
+ghost use Rattle.unstitched.specs.NewFile.{newVertex, newV, newN, newBlocks, newTable, newFile, RemovalReplied, RemovalSound, restOf, allBlocks, newExtent};
+ghost use Rattle.removal.specs.Parts.{PartReady, DeckReady, FileReady, ListReady, ListPut, LostInBlock, LostInDeck};
 use answers::Answer;
 use answers::Check;
 use ship::BLOCKS_PER_DECK;
@@ -22,12 +21,7 @@ use ship::LIST_IN_VERTEX;
 use ship::NUMBER_SIZE;
 use ship::PAIR_SIZE;
 use ship::VERTEX_SIZE;
-
-// Which stitches are removed: those between all decks, or those to one.
-pub enum Stitches {
-    All,
-    ToLayer(u8),
-}
+use unstitched::Stitches;
 
 // The `size` bytes of the file from `from` on, put at `at`. Returns the position after them.
 fn copy_part(file: &[u8], from: usize, size: usize, at: usize, out: &mut [u8]) -> usize
@@ -37,66 +31,6 @@ fn copy_part(file: &[u8], from: usize, size: usize, at: usize, out: &mut [u8]) -
     let to = from + size;
     words::copy(out, at, &file[from..to]);
     at + size
-}
-
-// Whether deck d's entries become plain numbers.
-fn plain_in(which: Stitches, d: usize) -> bool
-    ensures { λ r. ⌜ r ≡ plainIn which d ⌝ }
-{
-    match which {
-        Stitches::All => true,
-        Stitches::ToLayer(t) => d == t as usize,
-    }
-}
-
-// Whether an entry stays in a list of deck d.
-fn keeps(which: Stitches, d: usize, entry: u32) -> bool
-    ensures { λ r. ⌜ r ≡ keeps which d entry ⌝ }
-{
-    if entry == 0xFFFF_FFFF {
-        return true;
-    }
-    let deck = decks::packed_deck(entry);
-    match which {
-        Stitches::All => deck == d,
-        Stitches::ToLayer(t) => {
-            if d == t as usize {
-                return deck == d;
-            }
-            deck != t as usize
-        }
-    }
-}
-
-// What is written for an entry that stays.
-fn written_as(which: Stitches, d: usize, kept: u32) -> u32
-    ensures { λ r. ⌜ r ≡ writtenAs which d kept ⌝ }
-{
-    if kept == 0xFFFF_FFFF {
-        return kept;
-    }
-    if !plain_in(which, d) {
-        return kept;
-    }
-    decks::packed_polygon(kept) as u32
-}
-
-// How many of the n entries of N from number `first` on stay.
-fn kept_in(file: &[u8], which: Stitches, d: usize, b: Blocks, first: usize, n: usize) -> usize
-    requires { ⌜ b .n + numberSize * (first + n) ≤ length (now file) ⌝ }
-    ensures { λ r. ⌜ (r ≡ length (keptFrom which (now (file .entry)) d b first n)) × (r ≤ n) ⌝ }
-{
-    let end = first + n;
-    let mut kept: usize = 0;
-    let mut i = first;
-    'entries: while i < end {
-        let entry = words::u32_at(file, b.n + NUMBER_SIZE * i);
-        i += 1;
-        if keeps(which, d, entry) {
-            kept += 1;
-        }
-    }
-    kept
 }
 
 // What stays of N, from `at` on. Returns the position after it.
@@ -116,8 +50,8 @@ fn put_neighbours(
     'entries: while i < b.neighbours {
         let entry = words::u32_at(file, b.n + NUMBER_SIZE * i);
         i += 1;
-        if keeps(which, d, entry) {
-            words::put_u32(out, next, written_as(which, d, entry));
+        if unstitched::keeps(which, d, entry) {
+            words::put_u32(out, next, unstitched::written_as(which, d, entry));
             next += NUMBER_SIZE;
         }
     }
@@ -140,7 +74,7 @@ fn put_list(
         (now (out .entry)) at (now (out .exit)) r ⌝ }
 {
     let list = ship::extent_at(file, b.v + FIRST_LIST, VERTEX_SIZE, i);
-    let count = kept_in(file, which, d, b, list.start, list.count);
+    let count = unstitched::kept_in(file, which, d, b, list.start, list.count);
     let words = [start as u32, count as u32];
     words::put_words(out, at, &words);
     start + count
@@ -231,7 +165,7 @@ fn lost_in_deck(file: &[u8], which: Stitches, d: usize) -> usize
     ensures { λ r. ⌜ LostInDeck which (now (file .entry)) d r ⌝ }
 {
     let b = decks::deck_blocks(file, d);
-    NUMBER_SIZE * (b.neighbours - kept_in(file, which, d, b, 0, b.neighbours))
+    NUMBER_SIZE * (b.neighbours - unstitched::kept_in(file, which, d, b, 0, b.neighbours))
 }
 
 // How many bytes block j of the file loses. N is the second of a deck's five blocks.

@@ -1,6 +1,6 @@
 -- `remove_stitches_to_layer` meets its contract.
 use borrow.Author.Needs.{needs}
-use Rattle.removal.proofs.SoundRemoval.{removal-sound}
+use Rattle.unstitched.proofs.SoundRemoval.{removal-sound}
 use Rattle.removal.proofs.remove_stitches_to_layer.Statement.{statement}
 use Rattle.removal.proofs.remove_stitches_to_layer.Tie as tie
 

@@ -16,14 +16,14 @@ use Rattle.ship.specs.Decode.{deckAt, decode}
 use Rattle.ship.specs.Questions.{question1, question2, question3, question4, question5, question6, headerCheck, blocksCheck, deckCheck, firstNo}
 use Rattle.ship.proofs.ModelFacts.{row}
 use Rattle.ship.proofs.Passed.{header-all-yes, all-yes-header, BlocksYes, deck-all-yes, passed-header, passed-deck}
-use Rattle.removal.specs.declared.Stitches.{Stitches}
-use Rattle.removal.specs.Removal.{keptOf, withLists, withDeckLists, removed, removedTwice}
-use Rattle.removal.specs.NewFile.{newFile, RemovalSound}
-use Rattle.removal.proofs.KeptLists.{kept-twice}
-use Rattle.removal.proofs.OldPlaces.{laid}
-use Rattle.removal.proofs.NewDeck.{movedTo, anew}
-use Rattle.removal.proofs.DeckAnew.{blocks-anew, deck-anew}
-use Rattle.removal.proofs.NewPlaces.{place, deck-piece, file-length, header-read, chain, blocks-read, whole-read}
+use Rattle.unstitched.specs.declared.Stitches.{Stitches}
+use Rattle.unstitched.specs.Removal.{keptOf, withLists, withDeckLists, removed, removedTwice}
+use Rattle.unstitched.specs.NewFile.{newFile, RemovalSound}
+use Rattle.unstitched.proofs.KeptLists.{kept-twice}
+use Rattle.unstitched.proofs.OldPlaces.{laid}
+use Rattle.unstitched.proofs.NewDeck.{movedTo, anew}
+use Rattle.unstitched.proofs.DeckAnew.{blocks-anew, deck-anew}
+use Rattle.unstitched.proofs.NewPlaces.{place, deck-piece, file-length, header-read, chain, blocks-read, whole-read}
 
 blocks-passed : (s : List ℕ) (b : Blocks) → BlocksYes s b → blocksCheck s b ≡ Passed
 unfolding blocksCheck

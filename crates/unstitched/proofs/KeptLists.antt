@@ -9,9 +9,9 @@ use borrow.Author.Tests.{eqb-true, eqb-false, eq-eqb, ne-eqb}
 use Rattle.words.specs.Bytes.{allOnes}
 use Rattle.words.specs.Rows.{rows}
 use Rattle.ship.specs.Packed.{packedDeck, packedPolygon}
-use Rattle.removal.specs.declared.Stitches.{Stitches}
-use Rattle.removal.specs.declared.Stitches.the-variants.{All, ToLayer}
-use Rattle.removal.specs.Removal.{keepsPolygon, keeps, plainIn, writtenAs, keptOf, outsideOf, keptTwice}
+use Rattle.unstitched.specs.declared.Stitches.{Stitches}
+use Rattle.unstitched.specs.declared.Stitches.the-variants.{All, ToLayer}
+use Rattle.unstitched.specs.Removal.{keepsPolygon, keeps, plainIn, writtenAs, keptOf, outsideOf, keptTwice}
 
 rows-append : {A : Type 0} (f : ℕ → A) (i m n : ℕ) → rows f i (m + n) ≡ rows f i m ++ rows f (i + m) n
 unfolding rows

@@ -8,8 +8,8 @@ use Rattle.words.specs.Bytes.{allOnes}
 use Rattle.words.specs.Rows.{rows}
 use Rattle.ship.specs.Model.{Vertex, Deck, Ship, deckOf}
 use Rattle.ship.specs.Packed.{packedDeck, packedPolygon}
-use Rattle.removal.specs.declared.Stitches.{Stitches}
-use Rattle.removal.specs.declared.Stitches.the-variants.{All, ToLayer}
+use Rattle.unstitched.specs.declared.Stitches.{Stitches}
+use Rattle.unstitched.specs.declared.Stitches.the-variants.{All, ToLayer}
 
 -- ---- one entry in a list of deck d
 -- 'keep entries whose deck is d', 'drop the rest'; to layer t: 'so in deck t; elsewhere drop entries whose deck is t'

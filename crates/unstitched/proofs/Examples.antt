@@ -10,9 +10,9 @@ use Rattle.answers.specs.Checks.{checkEach}
 use Rattle.ship.specs.Layout.{blocksAt}
 use Rattle.ship.specs.Floats.{sizeAtMost, reachAllowed}
 use Rattle.ship.specs.Questions.{endToEnd, question1, question2, question3, question4, question5, question6, question7, question8, question9, question10, question11, question12, question13, headerCheck, blocksCheck, deckCheck, firstNo}
-use Rattle.removal.specs.declared.Stitches.the-variants.{All, ToLayer}
-use Rattle.removal.specs.Removal.{keeps, writtenAs, keptOf}
-use Rattle.removal.specs.NewFile.{pairs, keptFrom, newVertex, newBlocks, newLengths, newTable, newFile}
+use Rattle.unstitched.specs.declared.Stitches.the-variants.{All, ToLayer}
+use Rattle.unstitched.specs.Removal.{keeps, writtenAs, keptOf}
+use Rattle.unstitched.specs.NewFile.{pairs, keptFrom, newVertex, newBlocks, newLengths, newTable, allBlocks, newFile}
 
 -- 'deck 1 list [all ones, 01000002, 00000005] after removal [all ones, 2], after a second [all ones]'
 once : keptOf All 1 (allOnes ∷ 0x01000002 ∷ 0x00000005 ∷ []) ≡ allOnes ∷ 2 ∷ []
@@ -67,13 +67,13 @@ unfolding stitched joined bytes4 checkEach endToEnd every question1 question2 qu
 passed = refl
 
 written : newFile All stitched ≡ unstitched
-unfolding stitched unstitched joined bytes4 u32At blocksAt keptOf keeps writtenAs rows collect keptFrom newVertex newBlocks newLengths pairs newTable newFile
+unfolding stitched unstitched joined bytes4 u32At blocksAt keptOf keeps writtenAs rows collect keptFrom newVertex newBlocks newLengths pairs newTable allBlocks newFile
 written = refl
 
 written-again : newFile All unstitched ≡ again
-unfolding again unstitched joined bytes4 u32At blocksAt keptOf keeps writtenAs rows collect keptFrom newVertex newBlocks newLengths pairs newTable newFile
+unfolding again unstitched joined bytes4 u32At blocksAt keptOf keeps writtenAs rows collect keptFrom newVertex newBlocks newLengths pairs newTable allBlocks newFile
 written-again = refl
 
 written-to-lowest : newFile (ToLayer 0) stitched ≡ to-lowest
-unfolding stitched to-lowest joined bytes4 u32At blocksAt keptOf keeps writtenAs rows collect keptFrom newVertex newBlocks newLengths pairs newTable newFile
+unfolding stitched to-lowest joined bytes4 u32At blocksAt keptOf keeps writtenAs rows collect keptFrom newVertex newBlocks newLengths pairs newTable allBlocks newFile
 written-to-lowest = refl

@@ -10,12 +10,11 @@ use Rattle.words.proofs.Writing.{length-bytes4, length-joined}
 use Rattle.ship.specs.declared.Blocks.{Blocks}
 use Rattle.ship.specs.declared.Extent.{Extent}
 use Rattle.ship.specs.Layout.{numberSize, pairSize, deckOffsetSize, vertexSize, listInVertex, firstList, vertexPosition, neighbourExtent, neighbourEntry, polygonExtent, cornerEntry, heightPosition}
-use Rattle.removal.specs.declared.Stitches.{Stitches}
-use Rattle.removal.specs.NewFile.{keptFrom, newVertex, newV, newN, oldRest, newBlocks, newLengths}
-use Rattle.removal.specs.Parts.{restSize, restOf, newExtent}
-use Rattle.removal.proofs.Pieces.{Piece, piece-left, piece-right, piece-slice, piece-word, piece-row, rows-length, slice-length}
-use Rattle.removal.proofs.Pairs.{total}
-use Rattle.removal.proofs.OldPlaces.{Laid}
+use Rattle.unstitched.specs.declared.Stitches.{Stitches}
+use Rattle.unstitched.specs.NewFile.{keptFrom, newVertex, newV, newN, newBlocks, newLengths, restSize, restOf, newExtent}
+use Rattle.unstitched.proofs.Pieces.{Piece, piece-left, piece-right, piece-slice, piece-word, piece-row, rows-length, slice-length}
+use Rattle.unstitched.proofs.Pairs.{total}
+use Rattle.unstitched.proofs.OldPlaces.{Laid}
 
 module _ (which : Stitches) (s : List ℕ) (d : ℕ) (b : Blocks) where
   -- all entries of N that are kept
@@ -91,7 +90,7 @@ module _ (which : Stitches) (s : List ℕ) (d : ℕ) (b : Blocks) where
     blocks-length =
         omega (
           arith,
-          length-append (newV which s d b ++ newN which s d b) (oldRest which s d b),
+          length-append (newV which s d b ++ newN which s d b) (restOf s b),
           length-append (newV which s d b) (newN which s d b),
           v-length,
           n-length,
@@ -102,7 +101,7 @@ module _ (which : Stitches) (s : List ℕ) (d : ℕ) (b : Blocks) where
     module _ {t : List ℕ} {at : ℕ} (piece : Piece t at (newBlocks which s d b)) where
       front-piece : Piece t at (newV which s d b ++ newN which s d b)
       unfolding newBlocks
-      front-piece = piece-left (newV which s d b ++ newN which s d b) (oldRest which s d b) piece
+      front-piece = piece-left (newV which s d b ++ newN which s d b) (restOf s b) piece
 
       v-piece : Piece t at (newV which s d b)
       v-piece = piece-left (newV which s d b) (newN which s d b) front-piece
@@ -110,12 +109,12 @@ module _ (which : Stitches) (s : List ℕ) (d : ℕ) (b : Blocks) where
       n-piece : Piece t (movedTo at .n) (newN which s d b)
       n-piece = rw v-length at (piece-right (newV which s d b) (newN which s d b) front-piece)
 
-      rest-piece : Piece t (movedTo at .p) (oldRest which s d b)
+      rest-piece : Piece t (movedTo at .p) (restOf s b)
       unfolding newBlocks
       rest-piece =
           let e : at + length (newV which s d b ++ newN which s d b) ≡ movedTo at .p =
           omega (arith, length-append (newV which s d b) (newN which s d b), v-length, n-length) in
-          rw e at (piece-right (newV which s d b ++ newN which s d b) (oldRest which s d b) piece)
+          rw e at (piece-right (newV which s d b ++ newN which s d b) (restOf s b) piece)
 
       offset-piece : Piece t at (slice s (b .v) deckOffsetSize)
       offset-piece = piece-left (slice s (b .v) deckOffsetSize) (collectAll (newVertex which s d b) 0 (b .vertices)) v-piece

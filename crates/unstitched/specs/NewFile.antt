@@ -13,13 +13,20 @@ use Rattle.ship.specs.declared.Blocks.{Blocks}
 use Rattle.ship.specs.Layout.{numberSize, headerSize, pairSize, deckOffsetSize, vertexSize, listInVertex, decksIn, blocksPosition, blocksAt, vertexPosition, neighbourExtent, neighbourEntry}
 use Rattle.ship.specs.Decode.{decode}
 use Rattle.ship.specs.Questions.{firstNo}
-use Rattle.removal.specs.declared.Stitches.{Stitches}
-use Rattle.removal.specs.Removal.{keptOf, removed, removedTwice}
+use Rattle.unstitched.specs.declared.Stitches.{Stitches}
+use Rattle.unstitched.specs.Removal.{keptOf, removed, removedTwice}
 
 -- 'pairs of offset and length': blocks of these lengths, laid end to end from a position on
 unfoldable pub pairs : ℕ → List ℕ → List ℕ
 pairs at [] = []
 pairs at (n ∷ rest) = at ∷ n ∷ pairs (at + n) rest
+
+-- P, C and H of a deck, which lie end to end, as they stand
+abbrev pub restSize : Blocks → ℕ
+restSize b = pairSize * b .polygons + numberSize * b .corners + numberSize * b .heights
+
+abbrev pub restOf : List ℕ → Blocks → List ℕ
+restOf s b = slice s (b .p) (restSize b)
 
 module _ (which : Stitches) (s : List ℕ) where
   -- ---- deck d, whose blocks in the old file are b
@@ -28,12 +35,15 @@ module _ (which : Stitches) (s : List ℕ) where
     unfoldable pub keptFrom : ℕ → ℕ → List ℕ
     keptFrom i n = keptOf which d (rows (neighbourEntry s b) i n)
 
-    -- a vertex: x and y as they stand, then start and count of its list
+    -- start and count of vertex i's list
+    abbrev pub newExtent : ℕ → List ℕ
+    newExtent i =
+        length (keptFrom 0 (neighbourExtent s b i .start))
+        ∷ length (keptFrom (neighbourExtent s b i .start) (neighbourExtent s b i .count)) ∷ []
+
+    -- a vertex: x and y as they stand, then its list
     unfoldable pub newVertex : ℕ → List ℕ
-    newVertex i =
-        slice s (vertexPosition b i) listInVertex
-        ++ wordsOf (length (keptFrom 0 (neighbourExtent s b i .start))
-        ∷ length (keptFrom (neighbourExtent s b i .start) (neighbourExtent s b i .count)) ∷ [])
+    newVertex i = slice s (vertexPosition b i) listInVertex ++ wordsOf (newExtent i)
 
     abbrev pub newV : List ℕ
     newV = slice s (b .v) deckOffsetSize ++ collectAll newVertex 0 (b .vertices)
@@ -41,12 +51,8 @@ module _ (which : Stitches) (s : List ℕ) where
     abbrev pub newN : List ℕ
     newN = wordsOf (keptFrom 0 (b .neighbours))
 
-    -- P, C and H, which lie end to end, as they stand
-    abbrev pub oldRest : List ℕ
-    oldRest = slice s (b .p) (pairSize * b .polygons + numberSize * b .corners + numberSize * b .heights)
-
     unfoldable pub newBlocks : List ℕ
-    newBlocks = newV ++ newN ++ oldRest
+    newBlocks = newV ++ newN ++ restOf s b
 
     -- the five lengths in bytes
     unfoldable pub newLengths : List ℕ
@@ -59,11 +65,18 @@ module _ (which : Stitches) (s : List ℕ) where
         ∷ []
 
   -- ---- the file: header, pairs, blocks
+  -- the lengths of all blocks, in the table's order
+  abbrev pub blockLengths : List ℕ
+  blockLengths = collectAll (λ d. newLengths d (blocksAt s d)) 0 (decksIn s)
+
   unfoldable pub newTable : List ℕ
-  newTable = wordsOf (pairs (blocksPosition s) (collectAll (λ d. newLengths d (blocksAt s d)) 0 (decksIn s)))
+  newTable = wordsOf (pairs (blocksPosition s) blockLengths)
+
+  unfoldable pub allBlocks : List ℕ
+  allBlocks = collectAll (λ d. newBlocks d (blocksAt s d)) 0 (decksIn s)
 
   unfoldable pub newFile : List ℕ
-  newFile = slice s 0 headerSize ++ newTable ++ collectAll (λ d. newBlocks d (blocksAt s d)) 0 (decksIn s)
+  newFile = slice s 0 headerSize ++ newTable ++ allBlocks
 
 -- ---- the two calls: they return how many bytes they wrote
 abbrev pub removalReply : Stitches → List ℕ → Reply

@@ -1,8 +1,8 @@
 -- `plain_in` meets its contract.
 use borrow.Author.Needs.{needs}
-use Rattle.removal.proofs.Entries.{plain}
-use Rattle.removal.proofs.plain_in.Statement.{statement}
-use Rattle.removal.proofs.plain_in.Tie as tie
+use Rattle.unstitched.proofs.Entries.{plain}
+use Rattle.unstitched.proofs.plain_in.Statement.{statement}
+use Rattle.unstitched.proofs.plain_in.Tie as tie
 
 enum-told : tie.Need-enum-told
 enum-told c = search (plain, needs)

@@ -10,7 +10,7 @@ use Rattle.words.specs.Bytes.{joined, wordsOf}
 use Rattle.words.specs.Rows.{collect, collectAll, sumOf, sumAll}
 use Rattle.ship.specs.declared.Extent.{Extent}
 use Rattle.ship.specs.Questions.{endToEnd}
-use Rattle.removal.specs.NewFile.{pairs}
+use Rattle.unstitched.specs.NewFile.{pairs}
 
 -- ---- lengths
 abbrev pub total : List ℕ → ℕ

@@ -20,12 +20,12 @@ use Rattle.ship.specs.Questions.{endToEnd, everyFloat, everyCount, question8, q
 use Rattle.ship.proofs.EndToEnd.{chain-inside}
 use Rattle.ship.proofs.ModelFacts.{row}
 use Rattle.ship.proofs.Passed.{BlocksYes}
-use Rattle.removal.specs.declared.Stitches.{Stitches}
-use Rattle.removal.specs.Removal.{keptOf, withLists}
-use Rattle.removal.specs.NewFile.{keptFrom}
-use Rattle.removal.proofs.Chains.{Mapped, chain-mapped}
-use Rattle.removal.proofs.NewDeck.{keptEntries, movedTo, Anew}
-use Rattle.removal.proofs.KeptLists.{kept-rows}
+use Rattle.unstitched.specs.declared.Stitches.{Stitches}
+use Rattle.unstitched.specs.Removal.{keptOf, withLists}
+use Rattle.unstitched.specs.NewFile.{keptFrom}
+use Rattle.unstitched.proofs.Chains.{Mapped, chain-mapped}
+use Rattle.unstitched.proofs.NewDeck.{keptEntries, movedTo, Anew}
+use Rattle.unstitched.proofs.KeptLists.{kept-rows}
 
 every-same : (p q : ℕ → Bool) (i n : ℕ) → ((k : ℕ) → i ≤ k → k < i + n → p k ≡ q k) → every p i n ≡ every q i n
 unfolding every

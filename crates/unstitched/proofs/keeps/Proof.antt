@@ -1,8 +1,8 @@
 -- `keeps` meets its contract.
 use borrow.Author.Needs.{needs}
-use Rattle.removal.proofs.Entries.{entry-kept}
-use Rattle.removal.proofs.keeps.Statement.{statement}
-use Rattle.removal.proofs.keeps.Tie as tie
+use Rattle.unstitched.proofs.Entries.{entry-kept}
+use Rattle.unstitched.proofs.keeps.Statement.{statement}
+use Rattle.unstitched.proofs.keeps.Tie as tie
 
 returns : tie.Need-returns
 returns c = search (entry-kept, needs)

@@ -1,9 +1,9 @@
 -- `kept_in` meets its contract. The loop's invariant: `kept` of the entries before i stay.
 use Prim.Native.Nat.{_-_}
 use borrow.Author.Needs.{needs}
-use Rattle.removal.proofs.Entries.{Counted, counting}
-use Rattle.removal.proofs.kept_in.Statement.{statement}
-use Rattle.removal.proofs.kept_in.Tie as tie
+use Rattle.unstitched.proofs.Entries.{Counted, counting}
+use Rattle.unstitched.proofs.kept_in.Statement.{statement}
+use Rattle.unstitched.proofs.kept_in.Tie as tie
 
 abbrev Inv-entries : tie.InvT-entries
 Inv-entries file which d b first n end kept₀ i₀ kept i = Counted which file d b first n kept i

@@ -16,7 +16,7 @@ use Rattle.ship.specs.Layout.{numberSize, headerSize, pairSize, blocksPerDeck, 
 use Rattle.ship.specs.Questions.{endToEnd, question6, question7, question12, firstNo, DeckOfPassed}
 use Rattle.ship.proofs.Passed.{header-all-yes, deck-all-yes, passed-header, passed-deck}
 use Rattle.ship.proofs.Facts.{blocks-inside}
-use Rattle.removal.proofs.Chains.{startOf, start-here, start-end, start-first, start-next}
+use Rattle.unstitched.proofs.Chains.{startOf, start-here, start-end, start-first, start-next}
 
 -- ---- where block j begins; past the last one, the file's end
 abbrev pub blockStart : List ℕ → ℕ → ℕ

@@ -13,11 +13,11 @@ use Rattle.words.proofs.Collecting.{left, none-left}
 use Rattle.ship.specs.declared.Blocks.{Blocks}
 use Rattle.ship.specs.Layout.{neighbourEntry}
 use Rattle.ship.specs.Packed.{packedDeck, packedPolygon}
-use Rattle.removal.specs.declared.Stitches.{Stitches}
-use Rattle.removal.specs.declared.Stitches.the-variants.{All, ToLayer}
-use Rattle.removal.specs.Removal.{plainIn, keeps, writtenAs, keptOf}
-use Rattle.removal.specs.NewFile.{keptFrom}
-use Rattle.removal.proofs.KeptLists.{kept-rows}
+use Rattle.unstitched.specs.declared.Stitches.{Stitches}
+use Rattle.unstitched.specs.declared.Stitches.the-variants.{All, ToLayer}
+use Rattle.unstitched.specs.Removal.{plainIn, keeps, writtenAs, keptOf}
+use Rattle.unstitched.specs.NewFile.{keptFrom}
+use Rattle.unstitched.proofs.KeptLists.{kept-rows}
 
 -- ---- `plain_in`
 pub plain-to-layer : (d : ℕ) {which : Stitches} {t : ℕ} → which ≡ ToLayer t → eqb d t ≡ plainIn which d

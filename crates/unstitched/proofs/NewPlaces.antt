@@ -17,13 +17,12 @@ use Rattle.ship.specs.declared.DeckRow.{DeckRow}
 use Rattle.ship.specs.Layout.{numberSize, headerSize, pairSize, blocksPerDeck, deckRowSize, deckOffsetSize, vertexSize, decksIn, blocksPosition, blockAt, rowPosition, deckRow, blocksOf, blocksAt}
 use Rattle.ship.specs.Questions.{endToEnd, wholeRows, question7, firstNo}
 use Rattle.ship.proofs.Facts.{header-there}
-use Rattle.removal.specs.declared.Stitches.{Stitches}
-use Rattle.removal.specs.NewFile.{pairs, newBlocks, newLengths, newTable, newFile}
-use Rattle.removal.specs.Parts.{allBlocks}
-use Rattle.removal.proofs.Pieces.{Piece, piece-whole, piece-left, piece-right, piece-slice, piece-word, piece-collect, piece-row, rows-length, slice-length}
-use Rattle.removal.proofs.Pairs.{total, total-collect, pairs-length, pairs-chain, pairs-rows}
-use Rattle.removal.proofs.OldPlaces.{laid}
-use Rattle.removal.proofs.NewDeck.{keptEntries, movedTo, blocks-length}
+use Rattle.unstitched.specs.declared.Stitches.{Stitches}
+use Rattle.unstitched.specs.NewFile.{pairs, newBlocks, newLengths, newTable, newFile, allBlocks}
+use Rattle.unstitched.proofs.Pieces.{Piece, piece-whole, piece-left, piece-right, piece-slice, piece-word, piece-collect, piece-row, rows-length, slice-length}
+use Rattle.unstitched.proofs.Pairs.{total, total-collect, pairs-length, pairs-chain, pairs-rows}
+use Rattle.unstitched.proofs.OldPlaces.{laid}
+use Rattle.unstitched.proofs.NewDeck.{keptEntries, movedTo, blocks-length}
 
 -- one summand more at the end
 sum-last : (f : ℕ → ℕ) (i n : ℕ) → sumAll f i (n + 1) ≡ sumAll f i n + f (i + n)
@@ -129,7 +128,7 @@ module _ (which : Stitches) (s : List ℕ) where
 
     -- ---- the three parts
     front-piece : Piece (newFile which s) 0 (header ++ newTable which s)
-    unfolding newFile
+    unfolding newFile allBlocks
     front-piece = piece-left (header ++ newTable which s) (collectAll blocksIn 0 (decksIn s)) (piece-whole _)
 
     table-piece : Piece (newFile which s) headerSize (newTable which s)
@@ -138,7 +137,7 @@ module _ (which : Stitches) (s : List ℕ) where
         rw e at (piece-right header (newTable which s) front-piece)
 
     all-piece : Piece (newFile which s) (blocksPosition s) (collectAll blocksIn 0 (decksIn s))
-    unfolding newFile
+    unfolding newFile allBlocks
     all-piece =
         let e : 0 + length (header ++ newTable which s) ≡ blocksPosition s = omega (arith, front-length) in
         rw e at (piece-right (header ++ newTable which s) (collectAll blocksIn 0 (decksIn s)) (piece-whole _))

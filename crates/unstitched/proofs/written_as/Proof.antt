@@ -1,8 +1,8 @@
 -- `written_as` meets its contract.
 use borrow.Author.Needs.{needs}
-use Rattle.removal.proofs.Entries.{entry-written}
-use Rattle.removal.proofs.written_as.Statement.{statement}
-use Rattle.removal.proofs.written_as.Tie as tie
+use Rattle.unstitched.proofs.Entries.{entry-written}
+use Rattle.unstitched.proofs.written_as.Statement.{statement}
+use Rattle.unstitched.proofs.written_as.Tie as tie
 
 returns : tie.Need-returns
 returns c = search (entry-written, needs)

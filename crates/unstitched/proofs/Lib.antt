@@ -1,0 +1,11 @@
+pub mod Pieces
+pub mod Chains
+pub mod Pairs
+pub mod OldPlaces
+pub mod NewDeck
+pub mod NewPlaces
+pub mod KeptLists
+pub mod DeckAnew
+pub mod SoundRemoval
+pub mod Examples
+pub mod Entries
