@@ -1,0 +1,9 @@
+// Runs stored cases with the Rust's answers, which `compare/run answers` makes.
+use libc::STDIN_FILENO;
+
+// An input that does not fit is cut: `bad`, or too few lines, shows it.
+fn main() {
+    let mut buffer = [0u8; 262144];
+    let n = io::read_full(STDIN_FILENO, &mut buffer);
+    seats_replay::print_answers(&buffer[..n]);
+}
