@@ -33,16 +33,26 @@ def read(name):
     return re.sub(r'^ *#\[cfg_attr\(feature = "(tracing|serde)"[^\n]*\n', "", text, flags=re.M)
 
 
-def item(text, start):
-    """The item whose first line begins with `start`, to its closing brace."""
-    at = re.search(r"^[ ]*" + re.escape(start), text, re.M)
+def braced(text, pattern):
+    """The item whose first line the pattern finds, to its closing brace."""
+    at = re.search(pattern, text, re.M)
     if at is None:
-        sys.exit("extract: polyanya's source has no '%s'" % start)
+        sys.exit("extract: nothing is found for '%s'" % pattern)
     depth, i = 0, text.index("{", at.start())
     for k in range(i, len(text)):
         depth += {"{": 1, "}": -1}.get(text[k], 0)
         if depth == 0:
             return text[at.start() : k + 1] + "\n"
+
+
+def item(text, start):
+    """The item whose first line begins with `start`."""
+    return braced(text, r"^[ ]*" + re.escape(start))
+
+
+def function_of(text, name):
+    """The function of a name; of a trait's, the one that has a body."""
+    return braced(text, r"^.*fn %s\((?!self, \w+: \(Vec2, Vec2\)\) -> \w+;)" % name)
 
 
 def replaced(text, old, new):
@@ -170,8 +180,10 @@ def own(name):
 def with_mistakes(files):
     files = dict(files)
     for number, (name, places) in enumerate(mistakes.MISTAKES):
-        for file, right, wrong in places:
-            files[file] = replaced(files[file], right, wrong.replace("ON", "crate::polyanya::on(%d)" % number))
+        for file, function, right, wrong in places:
+            there = function_of(files[file], function)
+            switched = re.sub(r"\bON\b", "crate::polyanya::on(%d)" % number, wrong)
+            files[file] = files[file].replace(there, replaced(there, right, switched))
     names = "".join('    "%s",\n' % name for name, _ in mistakes.MISTAKES)
     files["names.rs"] = "pub const MISTAKES: [&str; %d] = [\n%s];\n" % (len(mistakes.MISTAKES), names)
     return files

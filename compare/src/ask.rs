@@ -37,24 +37,24 @@ fn any_polygon(plan: &ShipPlan, random: &mut Random) -> u32 {
 
 fn call(plan: &ShipPlan, random: &mut Random) -> Call {
     match random.below(24) {
-        0..=7 => {
+        0..=5 => {
             let seats: Vec<_> = (0..random.one_of(&[0, 1, 1, 2, 3, 5])).map(|_| random_seat(plan, random)).collect();
             Call::Run { seats: seat_list(&seats) }
         }
-        8 | 9 => Call::ClosestPoints(query(plan, random)),
-        10 | 11 => Call::ClosestPoint(query(plan, random)),
-        12 | 13 => {
+        6 | 7 => Call::ClosestPoints(query(plan, random)),
+        8 | 9 => Call::ClosestPoint(query(plan, random)),
+        10 | 11 => {
             let (x, y) = random_point(plan, random);
             Call::Height { x, y, polygon: if random.once_in(8) { NO_POLYGON } else { any_polygon(plan, random) } }
         }
-        14 | 15 => Call::PointLocation(loose_query(plan, random)),
-        16 | 17 => Call::PointLayer(loose_query(plan, random)),
-        18 | 19 => {
+        12 | 13 => Call::PointLocation(loose_query(plan, random)),
+        14 | 15 => Call::PointLayer(loose_query(plan, random)),
+        16..=18 => {
             let query = loose_query(plan, random);
             let named = random.one_of(&[0, 0x0100_0000, 12345]);
             Call::CandidatePolygons { query, polygon: if random.once_in(8) { named } else { NO_POLYGON } }
         }
-        20 => Call::Islands { deck: random.below(plan.decks.len() as u32) },
+        19 | 20 => Call::Islands { deck: random.below(plan.decks.len() as u32) },
         21 => Call::StitchPoints,
         22 => Call::RemoveStitches,
         _ => {

@@ -59,6 +59,11 @@ impl RustShip {
         RustShip { plan, mesh }
     }
 
+    /// Sets the step number again that a record, which searches with fewer, may have left.
+    pub fn set_steps(&mut self) {
+        self.mesh.search_steps = self.plan.steps;
+    }
+
     /// The bytes of the answer to a call that passes questions 1 to 19.
     pub fn answer(&mut self, call: &Call, blocked: &[u8]) -> Vec<u8> {
         let blocked = if call.takes_blocked() { blocked_layers(blocked) } else { HashSet::new() };

@@ -26,15 +26,6 @@ impl Ship {
         let rust = passes.then(|| RustShip::new(plan(&file)));
         Ship { file, rust }
     }
-
-    /// The Rust's answer, of a call that passes questions 1 to 19.
-    pub fn rust_answer(&mut self, asked: &Asked) -> Result<Vec<u8>, String> {
-        let ship = self.rust.as_mut().expect("the file passes");
-        let steps = ship.mesh.search_steps;
-        let answer = catch_unwind(AssertUnwindSafe(|| ship.answer(&asked.call, &asked.blocked)));
-        ship.mesh.search_steps = steps;
-        answer.map_err(|_| "the Rust panics".to_string())
-    }
 }
 
 /// What a call is held to.
@@ -46,27 +37,34 @@ pub struct Expected {
 }
 
 /// What document 01 asks of a call: the number of the first question that is not passed, or the Rust's answer.
-pub fn expected(ship: &mut Ship, asked: &Asked) -> Result<Expected, String> {
+pub fn expected(ship: &mut Ship, asked: &Asked) -> Expected {
     if let Some(no) = first_no(&ship.file, asked) {
-        return Ok(Expected { answer: Answer::Refused(no), output: asked.output.of(48), work: asked.work.of(8) });
+        return Expected { answer: Answer::Refused(no), output: asked.output.of(48), work: asked.work.of(8) };
     }
-    let answer = ship.rust_answer(asked)?;
+    let rust = ship.rust.as_mut().expect("the file passes");
+    let answer = rust.answer(&asked.call, &asked.blocked);
     let least = work_asked(&ship.file, &asked.call);
     let (output, work) = (asked.output.of(answer.len()), asked.work.of(least));
     let short = asked.call.entry_size() > 0 && output < answer.len() || work < least;
-    Ok(Expected { answer: if short { Answer::Refused(20) } else { Answer::Wrote(answer) }, output, work })
+    Expected { answer: if short { Answer::Refused(20) } else { Answer::Wrote(answer) }, output, work }
 }
 
-/// A difference is said with the call and both answers.
+/// A difference is said with the call and both answers. A panic of the Rust is one too.
 pub fn compare(ship: &mut Ship, asked: &Asked, met: &mut Met) -> Result<(), String> {
     met.calls += 1;
-    let expected = expected(ship, asked).map_err(|why| format!("{why}: {asked:?}"))?;
-    let library = library(&ship.file, &asked.call, &asked.blocked, expected.output, expected.work);
-    if library.as_ref() != Ok(&expected.answer) {
-        return Err(format!("{asked:?}\nthe library {library:?}\nexpected    {:?}", expected.answer));
+    let compared = catch_unwind(AssertUnwindSafe(|| {
+        let expected = expected(ship, asked);
+        let library = library(&ship.file, &asked.call, &asked.blocked, expected.output, expected.work);
+        if library.as_ref() != Ok(&expected.answer) {
+            return Err(format!("{asked:?}\nthe library {library:?}\nexpected    {:?}", expected.answer));
+        }
+        tell(ship, asked, &expected, met);
+        Ok(())
+    }));
+    if let Some(rust) = ship.rust.as_mut().filter(|_| compared.is_err()) {
+        rust.set_steps();
     }
-    tell(ship, asked, &expected, met);
-    Ok(())
+    compared.unwrap_or_else(|_| Err(format!("the Rust panics: {asked:?}")))
 }
 
 /// Tells the counts of an answer on which both agree.

@@ -42,8 +42,16 @@ pub fn set_lists(plan: &mut ShipPlan, random: &mut Random) {
     let all: Vec<Vec<Vec<u32>>> = (0..plan.decks.len()).map(|d| around(plan, d)).collect();
     let places: Vec<Vec<(f32, f32)>> = plan.decks.iter().map(|d| d.vertices.iter().map(|v| (v.x, v.y)).collect()).collect();
     let counts: Vec<u32> = plan.decks.iter().map(|d| d.polygons.len() as u32).collect();
-    let kind =
-        random.one_of(&[Lists::Unstitched, Lists::Stitched, Lists::Stitched, Lists::OneWay, Lists::OneWay, Lists::Plain, Lists::Any]);
+    let kind = random.one_of(&[
+        Lists::Unstitched,
+        Lists::Stitched,
+        Lists::Stitched,
+        Lists::OneWay,
+        Lists::OneWay,
+        Lists::Plain,
+        Lists::Plain,
+        Lists::Any,
+    ]);
     // Other decks are looked at where there are few.
     let others = if plan.decks.len() <= 4 { plan.decks.len() } else { 0 };
     for (d, deck) in plan.decks.iter_mut().enumerate() {

@@ -17,14 +17,18 @@ mod ships;
 
 #[cfg(not(feature = "mistakes"))]
 mod by_rust;
+#[cfg(feature = "mistakes")]
+mod mistakes;
 #[cfg(not(feature = "mistakes"))]
 mod record;
 #[cfg(feature = "mistakes")]
 mod by_rust {
+    #![allow(unused_parens)]
     crate::polyanya::extracted!("by_rust.rs");
 }
 #[cfg(feature = "mistakes")]
 mod record {
+    #![allow(unused_parens)]
     crate::polyanya::extracted!("record.rs");
 }
 
@@ -33,10 +37,21 @@ use std::process::exit;
 use calls::{library, Answer, Call};
 use met::Met;
 
+/// How many calls a full run makes, if it is not asked for another number.
+const FULL_CALLS: u64 = 400_000;
+
 fn main() {
+    let number = |k: usize| std::env::args().nth(k).map(|word| word.parse().expect("a number"));
     match std::env::args().nth(1).as_deref() {
-        Some("check") => compare_all(20_000),
-        Some("full") => compare_all(200_000),
+        Some("check") => compare_all(rounds::GATE_CALLS, rounds::SEED),
+        Some("full") => compare_all(number(2).unwrap_or(FULL_CALLS), number(3).unwrap_or(rounds::SEED)),
+        #[cfg(feature = "mistakes")]
+        Some("mistakes") if mistakes::all_show() => println!("compare: each mistake shows"),
+        #[cfg(feature = "mistakes")]
+        Some("mistakes") => {
+            eprintln!("compare: a mistake does not show, or there are differences without one");
+            exit(1);
+        }
         _ => {
             eprintln!("usage: compare check|full");
             exit(2);
@@ -45,14 +60,17 @@ fn main() {
 }
 
 /// Compares at least as many random calls as are asked, after every sample of every step.
-fn compare_all(calls: u64) {
-    let hit = rings::every_sample().unwrap_or_else(|difference| {
+fn compare_all(calls: u64, seed: u64) {
+    let hit = rings::every_sample(&mut |difference| {
         eprintln!("compare: {difference}");
         exit(1);
     });
-    assert_eq!(hit, 1216, "samples of 16 steps");
+    if hit != rings::SAMPLES {
+        eprintln!("compare: {hit} samples of {} were a seat's place", rings::SAMPLES);
+        exit(1);
+    }
     let mut met = Met::new();
-    rounds::random_calls(calls, &mut met, &mut |number, file, difference| {
+    rounds::random_calls(calls, seed, &mut met, &mut |number, file, difference| {
         eprintln!("compare: call {number}: {difference}\nthe ship {:?}", feedercoil::ShipPlan::read(file));
         exit(1);
     });

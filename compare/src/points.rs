@@ -20,8 +20,12 @@ fn edge(deck: &DeckPlan, random: &mut Random) -> (Point, Point) {
     (corner(deck, list[i]), corner(deck, list[(i + 1) % list.len()]))
 }
 
-/// A place on a polygon: between its vertices, or one of them.
+/// A place on a polygon: on an edge, between its vertices, or one of them.
 fn target(deck: &DeckPlan, random: &mut Random) -> Point {
+    if random.once_in(3) {
+        let ((a, b), t) = (edge(deck, random), random.part());
+        return (a.0 + (b.0 - a.0) * t, a.1 + (b.1 - a.1) * t);
+    }
     let list = &deck.polygons[random.index(deck.polygons.len())];
     let n = list.len() as f32;
     let middle = list.iter().map(|&v| corner(deck, v)).fold((0.0, 0.0), |sum, p| (sum.0 + p.0 / n, sum.1 + p.1 / n));
@@ -55,12 +59,15 @@ fn near_edge(deck: &DeckPlan, random: &mut Random) -> Point {
     (a.0 + dx * t - dy / length * away, a.1 + dy * t + dx / length * away)
 }
 
-/// A place on a polygon, less the way to a sample.
+/// A place on a polygon, less the way to a sample; of three samples, the one that leads farthest from a vertex of the deck.
 fn off_by_reaches(plan: &ShipPlan, deck: &DeckPlan, random: &mut Random) -> Point {
-    let step = random.below(plan.steps);
-    let (x, y) = direction(step, random.below(10 * step + 1));
-    let p = target(deck, random);
-    (p.0 - x * plan.reach * step as f32, p.1 - y * plan.reach * step as f32)
+    let step = random.below(plan.steps).max(random.below(plan.steps));
+    let to = target(deck, random);
+    let from = corner(deck, random.below(deck.vertices.len() as u32));
+    let off = |(x, y): (f32, f32)| (to.0 - x * plan.reach * step as f32, to.1 - y * plan.reach * step as f32);
+    let far = |p: &Point| (p.0 - from.0).hypot(p.1 - from.1);
+    let points = [0; 3].map(|_| off(direction(step, random.below(10 * step + 1))));
+    points.into_iter().max_by(|p, q| far(p).total_cmp(&far(q))).unwrap()
 }
 
 fn outside(random: &mut Random) -> Point {
@@ -79,7 +86,7 @@ pub fn random_point(plan: &ShipPlan, random: &mut Random) -> Point {
         14 => (random.coordinate(8), random.coordinate(8)),
         _ => target(deck, random),
     };
-    let set = |x: f32| if x == 0.0 && plan.steps % 2 == 0 { -0.0 } else { x.clamp(-MOST, MOST) };
+    let set = |x: f32| if x == 0.0 && plan.steps & 1 == 0 { -0.0 } else { x.clamp(-MOST, MOST) };
     (set(x + deck.offset.0), set(y + deck.offset.1))
 }
 

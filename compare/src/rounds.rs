@@ -12,9 +12,13 @@ const CALLS: u32 = 20;
 const DAMAGED_CALLS: u32 = 4;
 const DAMAGED_FILES: u32 = 3;
 
+/// How many calls the gate makes, and each mistake, and their seed.
+pub const GATE_CALLS: u64 = 20_000;
+pub const SEED: u64 = 0x5EA7_5EA7;
+
 /// At least as many calls as are asked. A difference is told to `differs`, with the number of its call and the ship's file.
-pub fn random_calls(calls: u64, met: &mut Met, differs: &mut dyn FnMut(u64, &[u8], &str)) {
-    let mut random = Random(0x5EA7_5EA7);
+pub fn random_calls(calls: u64, seed: u64, met: &mut Met, differs: &mut dyn FnMut(u64, &[u8], &str)) {
+    let mut random = Random(seed);
     while met.calls < calls {
         let plan = random_ship(&mut random, met);
         seen::ship(met, &plan);

@@ -135,12 +135,12 @@ fn random_deck(random: &mut Random, met: &mut Met) -> DeckPlan {
 
 /// A ship of one to four decks, now and then of 250 to 256.
 pub fn random_ship(random: &mut Random, met: &mut Met) -> ShipPlan {
-    let many = random.once_in(60);
+    let many = random.once_in(50);
     let scale = random.one_of(&[1.0, 1.0, 1.0, 1.0, 1.0, 1e-3, 1e-5, 30_000.0]);
     let shift =
         if random.once_in(6) { (random.sign() * random.one_of(&[100.0, 999_990.0]), random.sign() * 999_996.0) } else { (0.0, 0.0) };
     let mut decks: Vec<DeckPlan> = vec![];
-    for _ in 0..if many { 250 + random.below(7) } else { 1 + random.below(4) } {
+    for _ in 0..if many { random.one_of(&[250, 251, 252, 253, 254, 255, 256, 256]) } else { 1 + random.below(4) } {
         // A deck above another one, of the same vertices, has points to stitch.
         let deck = match decks.first() {
             Some(first) if !many && random.once_in(2) => first.clone(),
@@ -162,8 +162,10 @@ pub fn random_ship(random: &mut Random, met: &mut Met) -> ShipPlan {
         decks.iter_mut().for_each(|deck| deck.offset = first);
     }
     let near = random.below(33) as f32 / 16.0 * scale.min(1000.0);
-    let reach = random.one_of(&[near, near, near, near, near, near, 0.0, -0.0, 0.3, 1000.0]);
-    let steps = if many { 1 + random.below(3) } else { random.one_of(&[1, 2, 3, 4, 5, 6, 7, 16]) };
+    // Far out, several samples of a small reach lie at one place.
+    let small = if shift == (0.0, 0.0) { near } else { 0.07 };
+    let reach = random.one_of(&[near, near, near, near, small, small, small, 0.0, -0.0, 0.3, 1000.0]);
+    let steps = if many { 1 + random.below(3) } else { random.one_of(&[1, 2, 3, 4, 6, 9, 16]) };
     let mut plan = ShipPlan { reach: reach.min(1000.0), steps, decks };
     set_lists(&mut plan, random);
     plan
