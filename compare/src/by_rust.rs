@@ -1,4 +1,5 @@
 //! What the Rust says of each call, in the library's terms.
+use std::cell::Cell;
 use std::collections::HashSet;
 
 use feedercoil::raw::{ANY_DECK, NO_POLYGON};
@@ -15,6 +16,8 @@ use crate::polyanya::primitives::{Polygon, Vertex};
 pub struct RustShip {
     pub plan: ShipPlan,
     pub mesh: Mesh,
+    /// Whether an answer had a height of the Rust's that was no number.
+    pub not_a_height: Cell<bool>,
 }
 
 pub fn layer_of(deck: &DeckPlan) -> Result<Layer, MeshError> {
@@ -56,7 +59,7 @@ pub fn entry(c: &Coords) -> [u32; 3] {
 impl RustShip {
     pub fn new(plan: ShipPlan) -> Self {
         let mesh = mesh_of(&plan).expect("a ship that passes the questions");
-        RustShip { plan, mesh }
+        RustShip { plan, mesh, not_a_height: Cell::new(false) }
     }
 
     /// Sets the step number again that a record, which searches with fewer, may have left.
@@ -138,6 +141,7 @@ impl RustShip {
             return Some(height);
         }
         assert!(self.on_degenerate_edge(at), "the Rust's height {height} at {at:?}");
+        self.not_a_height.set(true);
         None
     }
 

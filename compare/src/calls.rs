@@ -82,9 +82,10 @@ impl Call {
     }
 }
 
-/// How much a call is lent, beside what its answer takes.
+/// How much a call is lent: what its answer takes, and more or less; or so many bytes.
 #[derive(Debug, Clone, Copy, PartialEq)]
 pub enum Room {
+    Bytes(usize),
     Just,
     More(usize),
     Less(usize),
@@ -93,6 +94,7 @@ pub enum Room {
 impl Room {
     pub fn of(self, needed: usize) -> usize {
         match self {
+            Room::Bytes(bytes) => bytes,
             Room::Just => needed,
             Room::More(bytes) => needed + bytes,
             Room::Less(bytes) => needed.saturating_sub(bytes),

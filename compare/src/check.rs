@@ -68,7 +68,7 @@ pub fn compare(ship: &mut Ship, asked: &Asked, met: &mut Met) -> Result<(), Stri
 }
 
 /// Tells the counts of an answer on which both agree.
-fn tell(ship: &Ship, asked: &Asked, expected: &Expected, met: &mut Met) {
+pub fn tell(ship: &Ship, asked: &Asked, expected: &Expected, met: &mut Met) {
     let name = NAMES[asked.call.number()];
     let bytes = match &expected.answer {
         Answer::Refused(number) => {

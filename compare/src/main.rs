@@ -1,8 +1,12 @@
 //! Runs polyanya's own code and the proved library on the same ships and calls: compares every answer, and measures both.
+mod answers;
 mod ask;
+mod bench;
 mod calls;
+mod cases;
 mod check;
 mod damage;
+mod differences;
 mod glam;
 mod lists;
 mod met;
@@ -14,6 +18,7 @@ mod rings;
 mod rounds;
 mod seen;
 mod ships;
+mod stored;
 
 #[cfg(not(feature = "mistakes"))]
 mod by_rust;
@@ -45,43 +50,49 @@ fn main() {
     match std::env::args().nth(1).as_deref() {
         Some("check") => compare_all(rounds::GATE_CALLS, rounds::SEED),
         Some("full") => compare_all(number(2).unwrap_or(FULL_CALLS), number(3).unwrap_or(rounds::SEED)),
+        Some("answers") => answers::write(),
+        Some("bench") => bench::run(),
         #[cfg(feature = "mistakes")]
         Some("mistakes") if mistakes::all_show() => println!("compare: each mistake shows"),
         #[cfg(feature = "mistakes")]
-        Some("mistakes") => {
-            eprintln!("compare: a mistake does not show, or there are differences without one");
-            exit(1);
-        }
+        Some("mistakes") => fail("a mistake does not show, or there are differences without one"),
         _ => {
-            eprintln!("usage: compare check|full");
+            eprintln!("usage: compare check|full [CALLS [SEED]]|mistakes|answers|bench");
             exit(2);
         }
     }
 }
 
+fn fail(what: &str) -> ! {
+    eprintln!("compare: {what}");
+    exit(1);
+}
+
 /// Compares at least as many random calls as are asked, after every sample of every step.
 fn compare_all(calls: u64, seed: u64) {
-    let hit = rings::every_sample(&mut |difference| {
-        eprintln!("compare: {difference}");
-        exit(1);
-    });
+    let wrong = [differences::not_as_written(include_str!("../../docs/DIFFERENCES.md")), differences::refusals_of_both()].concat();
+    if !wrong.is_empty() {
+        fail(&format!("docs/DIFFERENCES.md: {}", wrong.join("; ")));
+    }
+    let hit = rings::every_sample(&mut |difference| fail(difference));
     if hit != rings::SAMPLES {
-        eprintln!("compare: {hit} samples of {} were a seat's place", rings::SAMPLES);
-        exit(1);
+        fail(&format!("{hit} samples of {} were a seat's place", rings::SAMPLES));
     }
     let mut met = Met::new();
     rounds::random_calls(calls, seed, &mut met, &mut |number, file, difference| {
-        eprintln!("compare: call {number}: {difference}\nthe ship {:?}", feedercoil::ShipPlan::read(file));
-        exit(1);
+        fail(&format!("call {number}: {difference}\nthe ship {:?}", feedercoil::ShipPlan::read(file)));
     });
     too_many_polygons(&mut met);
     met.print();
     let never = met.never_met();
     if !never.is_empty() {
-        eprintln!("compare: never met: {}", never.join(", "));
-        exit(1);
+        fail(&format!("never met: {}", never.join(", ")));
     }
-    println!("compare: {} calls agree; each of {hit} samples of 16 steps was a seat's place", met.calls);
+    let stored = stored::check(&mut |difference| fail(difference)).unwrap_or_else(|wrong| fail(&wrong));
+    println!("compare: {stored} stored answers are the Rust's");
+    println!("compare: {} known differences are as docs/DIFFERENCES.md has them", differences::DIFFERENCES.len());
+    println!("compare: each of {hit} samples of 16 steps was a seat's place, in {} calls", rings::CALLS);
+    println!("compare: {} random calls agree", met.calls);
 }
 
 /// Question 9 wants a file of 128 MiB. With a polygon less, 12 is the first that this file does not pass.
@@ -89,8 +100,7 @@ fn too_many_polygons(met: &mut Met) {
     for (count, number) in [(16_777_216, 9), (16_777_215, 12)] {
         let answer = library(&damage::many_polygons(count), &Call::StitchPoints, &[], 0, 0);
         if answer != Ok(Answer::Refused(number)) {
-            eprintln!("compare: {count} polygons: {answer:?}");
-            exit(1);
+            fail(&format!("{count} polygons: {answer:?}"));
         }
         met.calls += 1;
         met.see(&format!("refused {number}"));

@@ -96,6 +96,15 @@ impl Met {
         *self.counts.get_mut(kind).unwrap_or_else(|| panic!("no kind '{kind}'")) += times;
     }
 
+    /// Adds what was seen, if it has a kind of which there are fewer than `few`.
+    pub fn add_if_below(&mut self, few: u64, seen: &Met) -> bool {
+        let below = seen.counts.iter().any(|(kind, &times)| times > 0 && self.counts[kind] < few);
+        if below {
+            seen.counts.iter().for_each(|(kind, &times)| self.see_times(kind, times));
+        }
+        below
+    }
+
     pub fn print(&self) {
         for name in &self.names {
             println!("{:>9}  {name}", self.counts[name]);

@@ -3,40 +3,41 @@ use crate::met::Met;
 use crate::polyanya::{switch_on, MISTAKES};
 use crate::rings::{self, every_sample};
 use crate::rounds::{random_calls, GATE_CALLS, SEED};
+use crate::stored;
 
-/// How many calls differ: of those for every sample, and of the random ones, with how many these are, and the number of the first.
+/// How many answers differ.
 struct Differences {
-    rings: u64,
+    /// Of random calls, with how many these are, and the number of the first.
     random: u64,
     calls: u64,
     first: Option<u64>,
+    /// Of the calls for every sample of every step.
+    samples: u64,
+    /// Of the stored answers, with how many these are.
+    stored: u64,
+    answers: usize,
 }
 
 fn differences() -> Differences {
     let mut met = Met::new();
-    let (mut rings, mut random, mut first) = (0, 0, None);
-    every_sample(&mut |_| rings += 1);
+    let (mut random, mut samples, mut stored, mut first) = (0, 0, 0, None);
+    every_sample(&mut |_| samples += 1);
     random_calls(GATE_CALLS, SEED, &mut met, &mut |number, _, _| {
         first = first.or(Some(number));
         random += 1;
     });
-    Differences { rings, random, calls: met.calls, first }
+    let answers = stored::check(&mut |_| stored += 1).expect("stored answers");
+    Differences { random, calls: met.calls, first, samples, stored, answers }
 }
 
 impl Differences {
     fn print(&self, name: &str) {
-        let first = self.first.map_or(String::new(), |number| format!(" (first in call {number})"));
-        println!(
-            "{name}: {} differences of {} random calls{first}, {} of {} at samples",
-            self.random,
-            self.calls,
-            self.rings,
-            rings::CALLS
-        );
+        let first = self.first.map_or("-".to_string(), |number| number.to_string());
+        println!("| {name} | {} | {first} | {} | {} |", self.random, self.samples, self.stored);
     }
 
     fn any(&self) -> bool {
-        self.random + self.rings > 0
+        self.random + self.samples > 0
     }
 }
 
@@ -46,8 +47,15 @@ pub fn all_show() -> bool {
     std::panic::set_hook(Box::new(|_| {}));
     switch_on(MISTAKES.len());
     let none = differences();
-    none.print("without a mistake");
-    let mut show = !none.any();
+    println!(
+        "| mistake | of {} random calls | first in call | of {} calls at samples | of {} stored answers |",
+        none.calls,
+        rings::CALLS,
+        none.answers
+    );
+    println!("|---|---|---|---|---|");
+    none.print("none");
+    let mut show = !none.any() && none.stored == 0;
     for (number, name) in MISTAKES.iter().enumerate() {
         switch_on(number);
         let some = differences();

@@ -8,7 +8,7 @@ use crate::glam::{vec2, Vec2};
 use crate::met::Met;
 use crate::polyanya::direction;
 
-const STEPS: u32 = 16;
+pub const STEPS: u32 = 16;
 
 /// So that the places are whole numbers of no reach, and their floats are some thousandths apart.
 const REACH: f32 = 333.3;
@@ -20,6 +20,13 @@ fn square_at(place: Vec2, way: f32) -> DeckPlan {
     let vertex = |(dx, dy): (f32, f32)| VertexPlan { x: place.x + dx * side, y: place.y + dy * side, neighbours: vec![] };
     let corners = [(0.0, 0.0), (1.0, 0.0), (1.0, 1.0), (0.0, 1.0)];
     DeckPlan { offset: (0.0, 0.0), vertices: corners.map(vertex).to_vec(), polygons: vec![vec![0, 1, 2, 3]], heights: vec![] }
+}
+
+/// A ship of 16 steps that is hit by one sample around a point, and lies `way` from there.
+pub fn ship_at(x: f32, y: f32, step: u32, i: u32, way: f32) -> ShipPlan {
+    let (a, b) = direction(step, i);
+    let place = vec2(x, y) + vec2(a, b) * REACH * step as f32;
+    ShipPlan { reach: REACH, steps: STEPS, decks: vec![square_at(place, way)] }
 }
 
 /// The number of pairs of step and sample, and of the calls that each is given.
@@ -35,11 +42,9 @@ pub fn every_sample(differs: &mut dyn FnMut(&str)) -> u32 {
     let mut met = Met::new();
     let mut hit = 0;
     for (step, i) in (0..STEPS).flat_map(|step| (0..=10 * step).map(move |i| (step, i))) {
-        let (a, b) = direction(step, i);
-        let place = vec2(x, y) + vec2(a, b) * REACH * step as f32;
         let mut both = true;
         for way in [1.0, -1.0] {
-            let mut ship = Ship::new(ShipPlan { reach: REACH, steps: STEPS, decks: vec![square_at(place, way)] });
+            let mut ship = Ship::new(ship_at(x, y, step, i, way));
             for call in [
                 Call::Run { seats: seat_list(&[Seat::at(x, y)]) },
                 Call::ClosestPoints(query),
