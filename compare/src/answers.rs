@@ -1,15 +1,16 @@
 //! The stored answers: cases of small ships whose answers are the Rust's, for programs that run without it.
-use feedercoil::raw::ANY_DECK;
+use feedercoil::raw::{ANY_DECK, NO_POLYGON};
 use feedercoil::{seat_list, DeckPlan, Seat, ShipPlan, VertexPlan};
 
 use crate::ask::random_call;
 use crate::by_rust::mesh_of;
-use crate::calls::{Answer, Asked, Call, Room};
+use crate::calls::{Answer, Asked, Call, Query, Room};
 use crate::cases::{answer_lines, case_bytes, is_of_run};
 use crate::check::{expected, tell, Ship};
 use crate::damage::damaged_call;
 use crate::differences::panics;
 use crate::met::Met;
+use crate::outcomes::PROBES;
 use crate::questions::file_passes;
 use crate::random::Random;
 use crate::rings::{ship_at, STEPS};
@@ -97,23 +98,42 @@ fn has_nan(call: &Call) -> bool {
     call.query().is_some_and(|q| q.x.is_nan() || q.y.is_nan())
 }
 
-/// What random small ships seldom have: a seat of each step, of its first and its last sample and of two between; and points that
-/// two decks share, one of them twice and one as 0 and -0.
+/// What random small ships seldom have.
 fn first_cases() -> Vec<(ShipPlan, Call)> {
-    let (x, y) = (0.25, -0.5);
-    let seats = seat_list(&[Seat::at(x, y)]);
-    let samples = (0..STEPS).flat_map(|step| [0, 3 * step, 7 * step, 10 * step].map(|i| (step, i)));
-    let mut cases: Vec<_> = samples.map(|(step, i)| (ship_at(x, y, step, i, 1.0), Call::Run { seats: seats.clone() })).collect();
-    let vertex = |(x, y)| VertexPlan { x, y, neighbours: vec![0x0100_0000, 0] };
-    let deck = |points: &[(f32, f32)]| DeckPlan {
-        vertices: points.iter().copied().map(vertex).collect(),
-        polygons: vec![(0..points.len() as u32).collect()],
-        ..DeckPlan::default()
-    };
+    let query = Query { x: 0.25, y: -0.5, deck: ANY_DECK };
+    let seats = seat_list(&[Seat::at(query.x, query.y)]);
+    let mut cases = vec![];
+    // A seat and points of each step, of its first and its last sample and of two between.
+    for step in 0..STEPS {
+        for (k, i) in [0, 3 * step, 7 * step, 10 * step].into_iter().enumerate() {
+            let plan = ship_at(query.x, query.y, step, i, 1.0);
+            cases.push((plan.clone(), Call::Run { seats: seats.clone() }));
+            if step % 5 == 0 || k == 3 {
+                cases.push((plan.clone(), Call::ClosestPoint(query)));
+                cases.push((plan, Call::CandidatePolygons { query, polygon: NO_POLYGON }));
+            }
+        }
+    }
+    // Each probe but the first finds the second of two squares, and the probe after it the first.
+    let square = |(x, y): (f32, f32)| [(x - 0.25, y - 0.25), (x + 0.25, y - 0.25), (x + 0.25, y + 0.25), (x - 0.25, y + 0.25)];
+    for k in 1..PROBES.len() {
+        let points = [square(PROBES[(k + 1).min(8)]), square(PROBES[k])].concat();
+        let deck = DeckPlan { polygons: vec![vec![0, 1, 2, 3], vec![4, 5, 6, 7]], ..deck(&points) };
+        let plan = ShipPlan { reach: 1.0, steps: 1, decks: vec![deck] };
+        cases.push((plan, Call::PointLayer(Query { x: 0.0, y: 0.0, deck: ANY_DECK })));
+    }
+    // Points that two decks share, one of them twice and one as 0 and -0.
     let decks = vec![deck(&[(0.0, 0.0), (1.0, 0.0), (1.0, 1.0)]), deck(&[(1.0, 1.0), (1.0, 1.0), (-0.0, 0.0)])];
     let shared = ShipPlan { reach: 0.5, steps: 2, decks };
     cases.extend([Call::StitchPoints, Call::RemoveStitches].map(|call| (shared.clone(), call)));
     cases
+}
+
+/// One polygon of all vertices, each of which names a polygon of deck 0 and one of deck 1.
+fn deck(points: &[(f32, f32)]) -> DeckPlan {
+    let vertex = |&(x, y): &(f32, f32)| VertexPlan { x, y, neighbours: vec![0x0100_0000, 0] };
+    let polygon = (0..points.len() as u32).collect();
+    DeckPlan { vertices: points.iter().map(vertex).collect(), polygons: vec![polygon], ..DeckPlan::default() }
 }
 
 impl Stored {

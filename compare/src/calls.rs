@@ -71,6 +71,13 @@ impl Call {
         matches!(self, Call::CandidatePolygons { .. } | Call::Islands { .. })
     }
 
+    fn seats(&self) -> &[u8] {
+        match self {
+            Call::Run { seats } => seats,
+            _ => &[],
+        }
+    }
+
     /// The point of a call that has one, and the deck that it names.
     pub fn query(&self) -> Option<Query> {
         match *self {
@@ -141,6 +148,7 @@ const LENT: u8 = 0xA5;
 
 /// The library's answer; or what it did to lent memory that it may not do.
 pub fn library(file: &[u8], call: &Call, blocked: &[u8], output: usize, work: usize) -> Result<Answer, String> {
+    let before = (file.to_vec(), call.clone(), blocked.to_vec());
     let (mut out, mut work) = (vec![LENT; output], vec![LENT; work]);
     let (o, w) = (&mut out[..], &mut work[..]);
     let code = match call {
@@ -159,6 +167,9 @@ pub fn library(file: &[u8], call: &Call, blocked: &[u8], output: usize, work: us
         Call::RemoveStitches => raw::remove_stitches(file, o),
         Call::RemoveStitchesToLayer { layer } => raw::remove_stitches_to_layer(file, *layer, o),
     };
+    if file != before.0 || call.seats() != before.1.seats() || blocked != before.2 {
+        return Err(format!("what is lent to be read is altered: {code:?}"));
+    }
     let (end, left) = match code {
         Ok(count) => (count * call.entry_size(), if call.takes_work() { 0 } else { LENT }),
         Err(_) => (0, LENT),

@@ -6,8 +6,8 @@ use feedercoil::ShipPlan;
 use crate::by_rust::RustShip;
 use crate::calls::{library, words, Answer, Asked, Call, NAMES};
 use crate::met::Met;
+use crate::outcomes;
 use crate::questions::{first_no, work_asked};
-use crate::seen;
 
 /// A file, and the Rust's ship of it where it passes questions 1 to 13.
 pub struct Ship {
@@ -83,14 +83,15 @@ pub fn tell(ship: &Ship, asked: &Asked, expected: &Expected, met: &mut Met) {
     match &asked.call {
         Call::Run { seats } => {
             let records = bytes.chunks(36).map(words);
-            seats.chunks(20).map(words).zip(records).for_each(|(seat, record)| seen::seat(met, rust, &asked.blocked, &seat, &record));
+            seats.chunks(20).map(words).zip(records).for_each(|(seat, record)| outcomes::seat(met, rust, &asked.blocked, &seat, &record));
         }
-        Call::CandidatePolygons { query, polygon: u32::MAX } => seen::merged(met, rust, *query, &asked.blocked, bytes),
-        Call::Islands { deck } => seen::labels(met, &rust.plan.decks[*deck as usize], bytes),
-        Call::StitchPoints => seen::stitch_points(met, &rust.plan, bytes),
-        Call::RemoveStitches => seen::removal(met, &rust.plan, &ShipPlan::read(bytes).expect("a file"), None),
+        Call::CandidatePolygons { query, polygon: u32::MAX } => outcomes::merged(met, rust, *query, &asked.blocked, bytes),
+        Call::PointLayer(query) => outcomes::probes(met, rust, *query, bytes),
+        Call::Islands { deck } => outcomes::labels(met, &rust.plan.decks[*deck as usize], bytes),
+        Call::StitchPoints => outcomes::stitch_points(met, &rust.plan, bytes),
+        Call::RemoveStitches => outcomes::removal(met, &rust.plan, &ShipPlan::read(bytes).expect("a file"), None),
         Call::RemoveStitchesToLayer { layer } => {
-            seen::removal(met, &rust.plan, &ShipPlan::read(bytes).expect("a file"), Some(*layer));
+            outcomes::removal(met, &rust.plan, &ShipPlan::read(bytes).expect("a file"), Some(*layer));
         }
         _ => {}
     }

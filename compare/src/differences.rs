@@ -177,6 +177,11 @@ pub fn not_as_written(table: &str) -> Vec<String> {
     wrong
 }
 
+/// Whether this compiler's library sums floats from -0, which leaves the mean of heights of -0 at -0. Older ones sum from 0.
+pub fn sums_from_negative_zero() -> bool {
+    [-0.0f32].iter().sum::<f32>().is_sign_negative()
+}
+
 /// The Rust's own refusals, which are questions 3, 4, 8 and 10 here.
 pub fn refusals_of_both() -> Vec<String> {
     let plan = || ship(vec![point(&[])]);

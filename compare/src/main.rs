@@ -8,8 +8,10 @@ mod check;
 mod damage;
 mod differences;
 mod glam;
+mod large;
 mod lists;
 mod met;
+mod outcomes;
 mod points;
 mod polyanya;
 mod questions;
@@ -28,28 +30,35 @@ mod mistakes;
 mod record;
 #[cfg(feature = "mistakes")]
 mod by_rust {
-    #![allow(unused_parens)]
+    #![allow(unused_parens, clippy::double_parens)]
     crate::polyanya::extracted!("by_rust.rs");
 }
 #[cfg(feature = "mistakes")]
 mod record {
-    #![allow(unused_parens)]
+    #![allow(unused_parens, clippy::double_parens)]
     crate::polyanya::extracted!("record.rs");
 }
 
 use std::process::exit;
 
 use calls::{library, Answer, Call};
+use glam::vec2;
 use met::Met;
+use polyanya::layers::Layer;
+use polyanya::mesh::MeshError;
+use polyanya::primitives::{Polygon, Vertex};
 
 /// How many calls a full run makes, if it is not asked for another number.
-const FULL_CALLS: u64 = 400_000;
+const FULL_CALLS: u64 = 1_000_000;
 
 fn main() {
     let number = |k: usize| std::env::args().nth(k).map(|word| word.parse().expect("a number"));
     match std::env::args().nth(1).as_deref() {
         Some("check") => compare_all(rounds::GATE_CALLS, rounds::SEED),
-        Some("full") => compare_all(number(2).unwrap_or(FULL_CALLS), number(3).unwrap_or(rounds::SEED)),
+        Some("full") => {
+            compare_all(number(2).unwrap_or(FULL_CALLS), number(3).unwrap_or(rounds::SEED));
+            rust_refuses_too_many();
+        }
         Some("answers") => answers::write(),
         Some("bench") => bench::run(),
         #[cfg(feature = "mistakes")]
@@ -74,10 +83,14 @@ fn compare_all(calls: u64, seed: u64) {
     if !wrong.is_empty() {
         fail(&format!("docs/DIFFERENCES.md: {}", wrong.join("; ")));
     }
+    if !differences::sums_from_negative_zero() {
+        fail("this compiler's library sums floats from 0 and not from -0, as newer ones do: the heights cannot be compared");
+    }
     let hit = rings::every_sample(&mut |difference| fail(difference));
     if hit != rings::SAMPLES {
         fail(&format!("{hit} samples of {} were a seat's place", rings::SAMPLES));
     }
+    let long = large::lists(&mut |difference| fail(difference));
     let mut met = Met::new();
     rounds::random_calls(calls, seed, &mut met, &mut |number, file, difference| {
         fail(&format!("call {number}: {difference}\nthe ship {:?}", feedercoil::ShipPlan::read(file)));
@@ -92,6 +105,7 @@ fn compare_all(calls: u64, seed: u64) {
     println!("compare: {stored} stored answers are the Rust's");
     println!("compare: {} known differences are as docs/DIFFERENCES.md has them", differences::DIFFERENCES.len());
     println!("compare: each of {hit} samples of 16 steps was a seat's place, in {} calls", rings::CALLS);
+    println!("compare: {long} calls with long lists agree");
     println!("compare: {} random calls agree", met.calls);
 }
 
@@ -105,4 +119,14 @@ fn too_many_polygons(met: &mut Met) {
         met.calls += 1;
         met.see(&format!("refused {number}"));
     }
+}
+
+/// The Rust refuses as many polygons as question 9 does. It takes half a gigabyte to ask it, so the gate does not.
+fn rust_refuses_too_many() {
+    let layer =
+        |count: usize| Layer::new(vec![Vertex::new(vec2(0.0, 0.0), vec![])], vec![Polygon::EMPTY; count]).map(|layer| layer.polygons.len());
+    if layer(16_777_216) != Err(MeshError::TooManyPolygons) || layer(16_777_215) != Ok(16_777_215) {
+        fail("the Rust's limit of polygons is another");
+    }
+    println!("compare: the Rust refuses 16,777,216 polygons and takes one less");
 }

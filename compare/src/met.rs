@@ -3,8 +3,8 @@ use std::collections::HashMap;
 
 use crate::calls::NAMES;
 
-/// Kinds of ships, points and answers. To these come each call, each step, and each number of a refusal.
-const KINDS: [&str; 60] = [
+/// Kinds of ships, points and answers. To these come each call, step, probe and number of a refusal.
+const KINDS: [&str; 61] = [
     "grid",
     "fan",
     "rectangles",
@@ -56,6 +56,7 @@ const KINDS: [&str; 60] = [
     "candidate dropped above deck 0",
     "candidate dropped through a chain",
     "candidate kept that a later one reaches",
+    "candidates of a blocked deck that is named",
     "island label of another polygon",
     "island label one way",
     "stitch point",
@@ -80,6 +81,7 @@ impl Met {
         let mut names: Vec<String> = NAMES.iter().flat_map(answers).collect();
         names.extend(KINDS.iter().map(|kind| kind.to_string()));
         names.extend((0..16).map(|step| format!("step {step}")));
+        names.extend((0..9).map(|probe| format!("probe {probe}")));
         names.extend((1..=20).map(|number| format!("refused {number}")));
         Met { calls: 0, counts: names.iter().map(|name| (name.clone(), 0)).collect(), names }
     }
@@ -94,6 +96,10 @@ impl Met {
 
     pub fn see_times(&mut self, kind: &str, times: u64) {
         *self.counts.get_mut(kind).unwrap_or_else(|| panic!("no kind '{kind}'")) += times;
+    }
+
+    pub fn count(&self, kind: &str) -> u64 {
+        self.counts[kind]
     }
 
     /// Adds what was seen, if it has a kind of which there are fewer than `few`.

@@ -64,6 +64,11 @@ fn off_by_reaches(plan: &ShipPlan, deck: &DeckPlan, random: &mut Random) -> Poin
     let step = random.below(plan.steps).max(random.below(plan.steps));
     let to = target(deck, random);
     let from = corner(deck, random.below(deck.vertices.len() as u32));
+    if random.once_in(4) {
+        // Off by a probe.
+        let mut side = || random.one_of(&[-1.0, 0.0, 1.0]);
+        return (to.0 + side() * plan.reach, to.1 + side() * plan.reach);
+    }
     let off = |(x, y): (f32, f32)| (to.0 - x * plan.reach * step as f32, to.1 - y * plan.reach * step as f32);
     let far = |p: &Point| (p.0 - from.0).hypot(p.1 - from.1);
     let points = [0; 3].map(|_| off(direction(step, random.below(10 * step + 1))));

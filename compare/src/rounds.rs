@@ -18,7 +18,8 @@ pub const SEED: u64 = 0x5EA7_5EA7;
 
 /// At least as many calls as are asked. A difference is told to `differs`, with the number of its call and the ship's file.
 pub fn random_calls(calls: u64, seed: u64, met: &mut Met, differs: &mut dyn FnMut(u64, &[u8], &str)) {
-    let mut random = Random(seed);
+    // The numbers never leave 0.
+    let mut random = Random(seed.max(1));
     while met.calls < calls {
         let plan = random_ship(&mut random, met);
         seen::ship(met, &plan);
