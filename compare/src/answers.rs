@@ -13,7 +13,7 @@ use crate::met::Met;
 use crate::outcomes::PROBES;
 use crate::questions::file_passes;
 use crate::random::Random;
-use crate::rings::{ship_at, STEPS};
+use crate::rings::{hit_by, STEPS};
 use crate::seen;
 use crate::ships::random_ship;
 use crate::stored::{folder, FOLDERS};
@@ -100,14 +100,12 @@ fn has_nan(call: &Call) -> bool {
 
 /// What random small ships seldom have.
 fn first_cases() -> Vec<(ShipPlan, Call)> {
-    let query = Query { x: 0.25, y: -0.5, deck: ANY_DECK };
-    let seats = seat_list(&[Seat::at(query.x, query.y)]);
     let mut cases = vec![];
     // A seat and points of each step, of its first and its last sample and of two between.
     for step in 0..STEPS {
         for (k, i) in [0, 3 * step, 7 * step, 10 * step].into_iter().enumerate() {
-            let plan = ship_at(query.x, query.y, step, i, 1.0);
-            cases.push((plan.clone(), Call::Run { seats: seats.clone() }));
+            let (plan, query) = hit_by(step, i);
+            cases.push((plan.clone(), Call::Run { seats: seat_list(&[Seat::at(query.x, query.y)]) }));
             if step % 5 == 0 || k == 3 {
                 cases.push((plan.clone(), Call::ClosestPoint(query)));
                 cases.push((plan, Call::CandidatePolygons { query, polygon: NO_POLYGON }));
