@@ -51,8 +51,8 @@ def item(text, start):
 
 
 def function_of(text, name):
-    """The function of a name; of a trait's, the one that has a body."""
-    return braced(text, r"^.*fn %s\((?!self, \w+: \(Vec2, Vec2\)\) -> \w+;)" % name)
+    """The function of a name that has a body, which those of a trait have not."""
+    return braced(text, r"^.*fn %s\((?:(?!;\n)[^{])*\{" % name)
 
 
 def replaced(text, old, new):
@@ -122,7 +122,8 @@ def layers():
         + item(text, "pub(crate) fn get_point_location(")
         + push
         + "fn find_first_point_location_baked(&self, _point: &Vec2) -> Option<u32> { None }\n"
-        + "fn get_point_locations_unit_baked<'a>(&'a self, _point: &'a Vec2) -> impl Iterator<Item = u32> + use<'a> { std::iter::empty() }\n"
+        + "fn get_point_locations_unit_baked<'a>(&'a self, _point: &'a Vec2)"
+        + " -> impl Iterator<Item = u32> + use<'a> { std::iter::empty() }\n"
         + "}\n"
     )
 
@@ -132,7 +133,8 @@ def mesh():
     fields = r"    #\[cfg\(feature = \"stats\"\)\]\n    #\[cfg_attr[^\n]*\n    pub\(crate\) scenarios: ScenarioCounter,\n"
     coords = item(lib, "impl Coords {")
     return (
-        "use std::collections::{HashMap, HashSet};\nuse crate::glam::Vec2;\nuse crate::{helpers::Vec2Helper, instance::U32Layer, layers::Layer};\n"
+        "use std::collections::{HashMap, HashSet};\n"
+        + "use crate::glam::Vec2;\nuse crate::{helpers::Vec2Helper, instance::U32Layer, layers::Layer};\n"
         + "#[derive(Debug, Copy, Clone, PartialEq)]\n"
         + re.sub(r" *#\[error[^\n]*\n", "", item(lib, "pub enum MeshError"))
         + "#[derive(Debug, PartialEq, Clone, Copy)]\n"
@@ -179,8 +181,8 @@ def own(name):
 
 def with_mistakes(files):
     files = dict(files)
-    for number, (name, places) in enumerate(mistakes.MISTAKES):
-        for file, function, right, wrong in places:
+    for number, (name, changes) in enumerate(mistakes.MISTAKES):
+        for (file, function), right, wrong in changes:
             there = function_of(files[file], function)
             switched = re.sub(r"\bON\b", "crate::polyanya::on(%d)" % number, wrong)
             files[file] = files[file].replace(there, replaced(there, right, switched))
