@@ -1,159 +1,185 @@
-//! The calls of document 01, section 8, held against the Rust's.
-use std::collections::HashSet;
+//! A call of the library, with what it is lent.
+use std::fmt;
 
-use crate::glam::vec2;
-use crate::mesh::{Coords, Mesh};
-use crate::ship::{blocked_bytes, Random, Ship};
-use crate::{layer_of, mesh_of, seats};
+use feedercoil::raw;
 
-/// What was met. A kind that was never met would be no comparison.
-#[derive(Default, Debug)]
-pub struct Met {
-    pub located: u32,
-    pub nowhere: u32,
-    pub several_layers: u32,
-    pub candidate_lists: u32,
-    pub candidates_dropped: u32,
-    pub stitched_dropped: u32,
-    pub refused_20: u32,
-    pub islands: u32,
-    pub merged_islands: u32,
-    pub refused_19: u32,
-    pub stitch_points: u32,
-    pub entries_removed: u32,
+/// A query's point, and the deck that it names or `ANY_DECK`.
+#[derive(Debug, Clone, Copy)]
+pub struct Query {
+    pub x: f32,
+    pub y: f32,
+    pub deck: u32,
 }
 
-impl Met {
-    pub fn all_met(&self) -> bool {
-        let Met { located, nowhere, several_layers, candidate_lists, candidates_dropped, stitched_dropped, refused_20, islands, merged_islands, refused_19, stitch_points, entries_removed } = *self;
-        let counts = [located, nowhere, several_layers, candidate_lists, candidates_dropped, stitched_dropped, refused_20, islands, merged_islands, refused_19, stitch_points, entries_removed];
-        counts.iter().all(|&n| n > 0)
-    }
+#[derive(Debug, Clone)]
+pub enum Call {
+    Run { seats: Vec<u8> },
+    ClosestPoints(Query),
+    ClosestPoint(Query),
+    Height { x: f32, y: f32, polygon: u32 },
+    PointLocation(Query),
+    PointLayer(Query),
+    CandidatePolygons { query: Query, polygon: u32 },
+    Islands { deck: u32 },
+    StitchPoints,
+    RemoveStitches,
+    RemoveStitchesToLayer { layer: u8 },
 }
 
-/// Where the answers differ: what was asked, and both answers.
-fn same<T: PartialEq + std::fmt::Debug>(asked: impl std::fmt::Debug, ours: T, rust: T) {
-    if ours != rust {
-        eprintln!("{asked:?}\nhere     {ours:X?}\nthe Rust {rust:X?}");
-        std::process::exit(1);
-    }
-}
+/// The calls' names, in the order of `Call::number`.
+pub const NAMES: [&str; 11] = [
+    "run",
+    "closest_points",
+    "closest_point",
+    "height",
+    "point_location",
+    "point_layer",
+    "candidate_polygons",
+    "islands",
+    "stitch_points",
+    "remove_stitches",
+    "remove_stitches_to_layer",
+];
 
-/// One ship with its files, and as many points as are asked.
-pub fn check(random: &mut Random, points: u32, met: &mut Met) {
-    let mut ship = Ship::random(random);
-    ship.set_lists(random);
-    let mesh = mesh_of(&ship);
-    let file = ship.bytes();
-    let blocked: HashSet<u8> = (0..ship.decks.len() as u8).filter(|_| random.below(5) == 0).collect();
-    for _ in 0..points {
-        let (x, y) = ship.point(random);
-        let deck = (random.below(3) == 0).then(|| random.below(ship.decks.len() as u32 + 1) as u8);
-        locating(&ship, &mesh, &file, x, y, deck, met);
-        candidates(&ship, &mesh, &file, x, y, deck, &blocked, met);
-    }
-    islands(&ship, &file, met);
-    stitches(&ship, &mesh, &file, met);
-}
-
-fn coords(x: f32, y: f32, deck: Option<u8>) -> Coords {
-    deck.map_or(vec2(x, y).into(), |d| Coords::on_layer(vec2(x, y), d))
-}
-
-fn number(deck: Option<u8>) -> u32 {
-    deck.map_or(u32::MAX, u32::from)
-}
-
-fn locating(ship: &Ship, mesh: &Mesh, file: &[u8], x: f32, y: f32, deck: Option<u8>, met: &mut Met) {
-    let at = coords(x, y, deck);
-    let location = seats::point_location(file, x, y, number(deck)).expect("not refused");
-    same(("point_location", ship, x, y, deck), location, mesh.get_point_location(at));
-    let layers = seats::point_layer(file, x, y, number(deck)).expect("not refused");
-    let rust: Vec<u32> = mesh.get_point_layer(at).iter().map(Coords::polygon).collect();
-    same(("point_layer", ship, x, y, deck), &layers, &rust);
-    met.located += (location != u32::MAX) as u32;
-    met.nowhere += (location == u32::MAX) as u32;
-    met.several_layers += (layers.len() > 1) as u32;
-}
-
-fn candidates(ship: &Ship, mesh: &Mesh, file: &[u8], x: f32, y: f32, deck: Option<u8>, blocked: &HashSet<u8>, met: &mut Met) {
-    let at = coords(x, y, deck);
-    let rust = mesh.candidate_polygons(at, blocked);
-    let set = blocked_bytes(blocked);
-    let most = ship.decks.iter().map(|d| d.polygons.len()).sum();
-    let asked = ("candidate_polygons", ship, x, y, deck, blocked);
-    // room for all that there are, for just the answer, and for one less
-    for room in [most, rust.len()] {
-        same(&asked, seats::candidate_polygons(file, x, y, number(deck), u32::MAX, &set, room, most), Ok(rust.clone()));
-    }
-    if !rust.is_empty() {
-        same(&asked, seats::candidate_polygons(file, x, y, number(deck), u32::MAX, &set, rust.len() - 1, most), Err(20));
-        met.refused_20 += 1;
-    }
-    let named = rust.last().copied().unwrap_or(7);
-    same(&asked, seats::candidate_polygons(file, x, y, number(deck), named, &set, 1, most), Ok(vec![named]));
-    met.candidate_lists += (rust.len() > 1) as u32;
-    if deck.is_none_or(|d| (d as usize) < ship.decks.len() && !blocked.contains(&d)) {
-        let found = mesh.get_closest_points_on_layers(at, blocked.clone());
-        let dropped = found.iter().filter(|c| !rust.contains(&c.polygon())).count();
-        met.candidates_dropped += dropped as u32;
-        met.stitched_dropped += found.iter().filter(|c| !rust.contains(&c.polygon()) && c.polygon() >> 24 > 0).count() as u32;
-    }
-}
-
-fn islands(ship: &Ship, file: &[u8], met: &mut Met) {
-    for (d, deck) in ship.decks.iter().enumerate() {
-        let count = deck.polygons.len();
-        let ours = seats::islands(file, d as u32, count);
-        let used = deck.polygons.iter().flatten().flat_map(|&v| &deck.vertices[v as usize].neighbours);
-        if used.clone().any(|&e| e != u32::MAX && e as usize >= count) {
-            // the Rust panics there
-            same(("islands", ship, d), ours, Err(19));
-            met.refused_19 += 1;
-            continue;
-        }
-        let mut layer = layer_of(deck);
-        layer.bake_islands_detection();
-        let rust: Vec<u32> = layer.islands.unwrap().iter().map(|&label| label as u32).collect();
-        met.islands += 1;
-        met.merged_islands += rust.iter().enumerate().filter(|&(k, &label)| k as u32 != label).count() as u32;
-        same(("islands", ship, d), ours, Ok(rust));
-    }
-}
-
-/// The ship whose lists are the mesh's.
-fn with_lists_of(ship: &Ship, mesh: &Mesh) -> Vec<u8> {
-    let mut changed = ship.clone();
-    for (deck, layer) in changed.decks.iter_mut().zip(&mesh.layers) {
-        for (vertex, theirs) in deck.vertices.iter_mut().zip(&layer.vertices) {
-            vertex.neighbours = theirs.polygons.clone();
+impl Call {
+    pub fn number(&self) -> usize {
+        match self {
+            Call::Run { .. } => 0,
+            Call::ClosestPoints(_) => 1,
+            Call::ClosestPoint(_) => 2,
+            Call::Height { .. } => 3,
+            Call::PointLocation(_) => 4,
+            Call::PointLayer(_) => 5,
+            Call::CandidatePolygons { .. } => 6,
+            Call::Islands { .. } => 7,
+            Call::StitchPoints => 8,
+            Call::RemoveStitches => 9,
+            Call::RemoveStitchesToLayer { .. } => 10,
         }
     }
-    changed.bytes()
+
+    /// Bytes of an entry; of removal, which counts bytes, 1; of the location, which writes nothing, 0.
+    pub fn entry_size(&self) -> usize {
+        [36, 12, 12, 4, 0, 4, 4, 4, 16, 1, 1][self.number()]
+    }
+
+    pub fn takes_blocked(&self) -> bool {
+        matches!(self, Call::Run { .. } | Call::ClosestPoints(_) | Call::ClosestPoint(_) | Call::CandidatePolygons { .. })
+    }
+
+    pub fn takes_work(&self) -> bool {
+        matches!(self, Call::CandidatePolygons { .. } | Call::Islands { .. })
+    }
+
+    fn seats(&self) -> &[u8] {
+        match self {
+            Call::Run { seats } => seats,
+            _ => &[],
+        }
+    }
+
+    /// The point of a call that has one, and the deck that it names.
+    pub fn query(&self) -> Option<Query> {
+        match *self {
+            Call::ClosestPoints(query) | Call::ClosestPoint(query) | Call::PointLocation(query) | Call::PointLayer(query) => Some(query),
+            Call::CandidatePolygons { query, .. } => Some(query),
+            Call::Height { x, y, .. } => Some(Query { x, y, deck: raw::ANY_DECK }),
+            _ => None,
+        }
+    }
 }
 
-fn stitches(ship: &Ship, mesh: &Mesh, file: &[u8], met: &mut Met) {
-    let rust: Vec<u32> = mesh
-        .clone()
-        .find_stitch_points()
-        .iter()
-        .flat_map(|((a, b), points)| points.iter().flat_map(|p| [*a as u32, *b as u32, p.x.to_bits(), p.y.to_bits()]))
-        .collect();
-    met.stitch_points += rust.len() as u32 / 4;
-    same(("stitch_points", ship), seats::stitch_points(file, rust.len() / 4), Ok(rust));
-    for layer in [None, Some(0), Some(1), Some(255)] {
-        let remove = |mesh: &mut Mesh| match layer {
-            None => mesh.remove_stitches(),
-            Some(t) => mesh.remove_stitches_to_layer(t),
-        };
-        let mut theirs = mesh.clone();
-        remove(&mut theirs);
-        let once = seats::remove_stitches(file, layer);
-        same(("remove_stitches", ship, layer), once.as_deref(), Ok(&with_lists_of(ship, &theirs)));
-        // a second removal takes more away
-        remove(&mut theirs);
-        let twice = seats::remove_stitches(&once.clone().unwrap(), layer);
-        same(("remove_stitches twice", ship, layer), twice.as_deref(), Ok(&with_lists_of(ship, &theirs)));
-        met.entries_removed += (once.unwrap().len() < file.len()) as u32;
+/// How much a call is lent: what its answer takes, and more or less; or so many bytes.
+#[derive(Debug, Clone, Copy, PartialEq)]
+pub enum Room {
+    Bytes(usize),
+    Just,
+    More(usize),
+    Less(usize),
+}
+
+impl Room {
+    pub fn of(self, needed: usize) -> usize {
+        match self {
+            Room::Bytes(bytes) => bytes,
+            Room::Just => needed,
+            Room::More(bytes) => needed + bytes,
+            Room::Less(bytes) => needed.saturating_sub(bytes),
+        }
     }
+}
+
+/// A call, its blocked set, and the output and work that it is lent.
+#[derive(Debug, Clone)]
+pub struct Asked {
+    pub call: Call,
+    pub blocked: Vec<u8>,
+    pub output: Room,
+    pub work: Room,
+}
+
+/// The bytes that a call wrote (of the location, the packed polygon), or the number of the question that its input does not pass.
+#[derive(Clone, PartialEq)]
+pub enum Answer {
+    Refused(u32),
+    Wrote(Vec<u8>),
+}
+
+impl fmt::Debug for Answer {
+    fn fmt(&self, f: &mut fmt::Formatter<'_>) -> fmt::Result {
+        match self {
+            Answer::Refused(number) => write!(f, "refused {number}"),
+            Answer::Wrote(bytes) => write!(f, "{} bytes: {:08X?}", bytes.len(), words(bytes)),
+        }
+    }
+}
+
+/// The numbers in bytes.
+pub fn words(bytes: &[u8]) -> Vec<u32> {
+    bytes.chunks_exact(4).map(|w| u32::from_le_bytes([w[0], w[1], w[2], w[3]])).collect()
+}
+
+pub fn bytes_of(words: &[u32]) -> Vec<u8> {
+    words.iter().flat_map(|w| w.to_le_bytes()).collect()
+}
+
+/// What lent memory is filled with before a call.
+const LENT: u8 = 0xA5;
+
+/// The library's answer; or what it did to lent memory that it may not do.
+pub fn library(file: &[u8], call: &Call, blocked: &[u8], output: usize, work: usize) -> Result<Answer, String> {
+    let before = (file.to_vec(), call.clone(), blocked.to_vec());
+    let (mut out, mut work) = (vec![LENT; output], vec![LENT; work]);
+    let (o, w) = (&mut out[..], &mut work[..]);
+    let code = match call {
+        Call::Run { seats } => raw::run(file, blocked, seats, o),
+        Call::ClosestPoints(q) => raw::closest_points(file, q.x, q.y, q.deck, blocked, o),
+        Call::ClosestPoint(q) => raw::closest_point(file, q.x, q.y, q.deck, blocked, o),
+        Call::Height { x, y, polygon } => raw::height(file, *x, *y, *polygon, o),
+        Call::PointLocation(q) => match raw::point_location(file, q.x, q.y, q.deck) {
+            Ok(polygon) => return Ok(Answer::Wrote(bytes_of(&[polygon]))),
+            Err(refusal) => return Ok(Answer::Refused(refusal.question())),
+        },
+        Call::PointLayer(q) => raw::point_layer(file, q.x, q.y, q.deck, o),
+        Call::CandidatePolygons { query: q, polygon } => raw::candidate_polygons(file, q.x, q.y, q.deck, *polygon, blocked, o, w),
+        Call::Islands { deck } => raw::islands(file, *deck, o, w),
+        Call::StitchPoints => raw::stitch_points(file, o),
+        Call::RemoveStitches => raw::remove_stitches(file, o),
+        Call::RemoveStitchesToLayer { layer } => raw::remove_stitches_to_layer(file, *layer, o),
+    };
+    if file != before.0 || call.seats() != before.1.seats() || blocked != before.2 {
+        return Err(format!("what is lent to be read is altered: {code:?}"));
+    }
+    let (end, left) = match code {
+        Ok(count) => (count * call.entry_size(), if call.takes_work() { 0 } else { LENT }),
+        Err(_) => (0, LENT),
+    };
+    if end > out.len() || out[end..].iter().any(|&b| b != LENT) {
+        return Err(format!("output past the answer is altered: {code:?}"));
+    }
+    if work.iter().any(|&b| b != left) {
+        return Err(format!("work is not as it has to be: {code:?}"));
+    }
+    out.truncate(end);
+    Ok(code.map_or_else(|refusal| Answer::Refused(refusal.question()), |_| Answer::Wrote(out)))
 }

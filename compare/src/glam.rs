@@ -13,6 +13,8 @@ pub const fn vec2(x: f32, y: f32) -> Vec2 {
 }
 
 impl Vec2 {
+    pub const ZERO: Vec2 = vec2(0.0, 0.0);
+
     #[inline(always)]
     pub fn dot(self, b: Vec2) -> f32 {
         self.x * b.x + self.y * b.y

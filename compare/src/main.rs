@@ -1,158 +1,132 @@
-//! Runs polyanya's own code and the proved library on the same ships and seats: compares every answer, and measures both.
+//! Runs polyanya's own code and the proved library on the same ships and calls: compares every answer, and measures both.
+mod answers;
+mod ask;
+mod bench;
 mod calls;
-mod ship;
-
-mod helpers {
-    include!(concat!(env!("POLYANYA"), "/helpers.rs"));
-}
-mod instance {
-    include!(concat!(env!("POLYANYA"), "/instance.rs"));
-}
-mod layers {
-    include!(concat!(env!("POLYANYA"), "/layers.rs"));
-}
-mod mesh {
-    include!(concat!(env!("POLYANYA"), "/mesh.rs"));
-}
-mod primitives {
-    include!(concat!(env!("POLYANYA"), "/primitives.rs"));
-}
+mod cases;
+mod check;
+mod damage;
+mod differences;
 mod glam;
-mod seats;
+mod large;
+mod lists;
+mod met;
+mod outcomes;
+mod points;
+mod polyanya;
+mod questions;
+mod random;
+mod rings;
+mod rounds;
+mod seen;
+mod ships;
+mod stored;
 
-use std::collections::HashSet;
-use std::hint::black_box;
-use std::time::Instant;
-
-use glam::{vec2, Vec2};
-use helpers::Vec2Helper;
-use mesh::{Coords, Mesh};
-use primitives::{Polygon, Vertex};
-use ship::{Deck, Random, Seat, Ship};
-
-#[derive(Debug)]
-pub enum MeshError {
-    MismatchedHeights { heights: usize, vertices: usize },
+#[cfg(not(feature = "mistakes"))]
+mod by_rust;
+#[cfg(feature = "mistakes")]
+mod mistakes;
+#[cfg(not(feature = "mistakes"))]
+mod record;
+#[cfg(feature = "mistakes")]
+mod by_rust {
+    #![allow(unused_parens, clippy::double_parens)]
+    crate::polyanya::extracted!("by_rust.rs");
+}
+#[cfg(feature = "mistakes")]
+mod record {
+    #![allow(unused_parens, clippy::double_parens)]
+    crate::polyanya::extracted!("record.rs");
 }
 
-include!(concat!(env!("POLYANYA"), "/directions.rs"));
+use std::process::exit;
 
-/// The table's direction for sample i of a step, in place of `sin_cos`.
-#[inline(always)]
-pub fn direction(step: u32, i: u32) -> (f32, f32) {
-    let k = 2 * (5 * step * step - 4 * step + i) as usize;
-    (DIRECTIONS[k] as f32 / 16777216.0, DIRECTIONS[k + 1] as f32 / 16777216.0)
-}
+use calls::{library, Answer, Call};
+use glam::vec2;
+use met::Met;
+use polyanya::layers::Layer;
+use polyanya::mesh::MeshError;
+use polyanya::primitives::{Polygon, Vertex};
+
+/// How many calls a full run makes, if it is not asked for another number.
+const FULL_CALLS: u64 = 1_000_000;
 
 fn main() {
+    let number = |k: usize| std::env::args().nth(k).map(|word| word.parse().expect("a number"));
     match std::env::args().nth(1).as_deref() {
-        Some("check") => check(),
-        Some("bench") => bench(),
+        Some("check") => compare_all(rounds::GATE_CALLS, rounds::SEED),
+        Some("full") => {
+            compare_all(number(2).unwrap_or(FULL_CALLS), number(3).unwrap_or(rounds::SEED));
+            rust_refuses_too_many();
+        }
+        Some("answers") => answers::write(),
+        Some("bench") => bench::run(),
+        #[cfg(feature = "mistakes")]
+        Some("mistakes") if mistakes::all_show() => println!("compare: each mistake shows"),
+        #[cfg(feature = "mistakes")]
+        Some("mistakes") => fail("a mistake does not show, or there are differences without one"),
         _ => {
-            eprintln!("usage: compare check|bench");
-            std::process::exit(2);
+            eprintln!("usage: compare check|full [CALLS [SEED]]|mistakes|answers|bench");
+            exit(2);
         }
     }
 }
 
-fn mesh_of(ship: &Ship) -> Mesh {
-    let layers = ship.decks.iter().map(layer_of).collect();
-    Mesh { layers, search_delta: ship.reach, search_steps: ship.steps }
+fn fail(what: &str) -> ! {
+    eprintln!("compare: {what}");
+    exit(1);
 }
 
-fn layer_of(deck: &Deck) -> layers::Layer {
-    let vertices = deck.vertices.iter().map(|v| Vertex::new(vec2(v.x, v.y), v.neighbours.clone())).collect();
-    let polygons = deck.polygons.iter().map(|p| Polygon::new(p.clone(), false)).collect();
-    let mut layer = layers::Layer::unbaked(vertices, polygons, vec2(deck.offset.0, deck.offset.1));
-    layer.set_heights(deck.heights.clone()).expect("one height a vertex");
-    layer
+/// Compares at least as many random calls as are asked, after every sample of every step.
+fn compare_all(calls: u64, seed: u64) {
+    let wrong = [differences::not_as_written(include_str!("../../docs/DIFFERENCES.md")), differences::refusals_of_both()].concat();
+    if !wrong.is_empty() {
+        fail(&format!("docs/DIFFERENCES.md: {}", wrong.join("; ")));
+    }
+    if !differences::sums_from_negative_zero() {
+        fail("this compiler's library sums floats from 0 and not from -0, as newer ones do: the heights cannot be compared");
+    }
+    let hit = rings::every_sample(&mut |difference| fail(difference));
+    if hit != rings::SAMPLES {
+        fail(&format!("{hit} samples of {} were a seat's place", rings::SAMPLES));
+    }
+    let long = large::lists(&mut |difference| fail(difference));
+    let mut met = Met::new();
+    rounds::random_calls(calls, seed, &mut met, &mut |number, file, difference| {
+        fail(&format!("call {number}: {difference}\nthe ship {:?}", feedercoil::ShipPlan::read(file)));
+    });
+    too_many_polygons(&mut met);
+    met.print();
+    let never = met.never_met();
+    if !never.is_empty() {
+        fail(&format!("never met: {}", never.join(", ")));
+    }
+    let stored = stored::check(&mut |difference| fail(difference)).unwrap_or_else(|wrong| fail(&wrong));
+    println!("compare: {stored} stored answers are the Rust's");
+    println!("compare: {} known differences are as docs/DIFFERENCES.md has them", differences::DIFFERENCES.len());
+    println!("compare: each of {hit} samples of 16 steps was a seat's place, in {} calls", rings::CALLS);
+    println!("compare: {long} calls with long lists agree");
+    println!("compare: {} random calls agree", met.calls);
 }
 
-/// What the Rust says of a seat: packed polygon, place, whether it has a height, the height, how many candidates.
-fn by_rust(mesh: &Mesh, blocked: &HashSet<u8>, seat: &Seat) -> [u32; 6] {
-    let at: Coords = match seat.deck {
-        Some(d) => Coords::on_layer(vec2(seat.x, seat.y), d),
-        None => vec2(seat.x, seat.y).into(),
-    };
-    let candidates = mesh.get_closest_points_on_layers(at, blocked.clone());
-    let chosen = match seat.wish {
-        None => candidates.first().copied(),
-        Some(h) => mesh.get_closest_points_on_layers_at_height(at, blocked.clone(), h),
-    };
-    let Some(c) = chosen else { return [u32::MAX, 0, 0, 0, 0, 0] };
-    let height = c.height(mesh).filter(|h| h.is_finite());
-    [
-        c.polygon(),
-        c.position().x.to_bits(),
-        c.position().y.to_bits(),
-        height.is_some() as u32,
-        height.map_or(0, f32::to_bits),
-        candidates.len() as u32,
-    ]
-}
-
-/// The same six numbers of a record.
-fn of_record(record: &[u8]) -> [u32; 6] {
-    let word = |k: usize| u32::from_le_bytes(record[4 * k..4 * k + 4].try_into().unwrap());
-    [word(0), word(1), word(2), word(3), word(4), word(8)]
-}
-
-fn check() {
-    let mut random = Random(0x5EA7);
-    let (mut seats_compared, mut placed, mut wishes) = (0, 0, 0);
-    for round in 0..400 {
-        let ship = Ship::random(&mut random);
-        let mesh = mesh_of(&ship);
-        let blocked: HashSet<u8> = (0..ship.decks.len() as u8).filter(|_| random.below(5) == 0).collect();
-        let list: Vec<Seat> = (0..40).map(|_| Seat::random(&mut random, &ship)).collect();
-        let records = seats::run(&ship.bytes(), &ship::blocked_bytes(&blocked), &ship::seat_bytes(&list)).expect("not refused");
-        for (seat, record) in list.iter().zip(records.chunks(36)) {
-            let (ours, rust) = (of_record(record), by_rust(&mesh, &blocked, seat));
-            if ours != rust {
-                eprintln!("round {round}: {seat:?}\nhere     {ours:08X?}\nthe Rust {rust:08X?}");
-                std::process::exit(1);
-            }
-            seats_compared += 1;
-            placed += (ours[0] != u32::MAX) as u32;
-            wishes += seat.wish.is_some() as u32;
+/// Question 9 wants a file of 128 MiB. With a polygon less, 12 is the first that this file does not pass.
+fn too_many_polygons(met: &mut Met) {
+    for (count, number) in [(16_777_216, 9), (16_777_215, 12)] {
+        let answer = library(&damage::many_polygons(count), &Call::StitchPoints, &[], 0, 0);
+        if answer != Ok(Answer::Refused(number)) {
+            fail(&format!("{count} polygons: {answer:?}"));
         }
+        met.calls += 1;
+        met.see(&format!("refused {number}"));
     }
-    // question 9 wants a file of 128 MiB, which the stored cases do not have
-    assert_eq!(seats::run(&ship::too_many_polygons(), &[0; 32], &[]), Err(9));
-    let mut met = calls::Met::default();
-    for _ in 0..400 {
-        calls::check(&mut random, 12, &mut met);
-    }
-    assert!(met.all_met(), "a kind was never met: {met:?}");
-    println!("compare: the other calls agree with the Rust on 400 ships, 12 points each: {met:?}");
-    println!("compare: {seats_compared} seats of 400 ships agree with the Rust, {placed} placed, {wishes} with a wished height; question 9 refuses 16,777,216 polygons");
 }
 
-fn bench() {
-    let mut random = Random(0xB0A7);
-    let ship = Ship::large(&mut random);
-    let mesh = mesh_of(&ship);
-    let bytes = ship.bytes();
-    let list: Vec<Seat> = (0..300).map(|k| Seat::for_bench(&mut random, k)).collect();
-    let seat_list = ship::seat_bytes(&list);
-    let blocked = HashSet::new();
-    let mut out = vec![0; 36 * list.len()];
-    let (mut here, mut rust) = (f64::MAX, f64::MAX);
-    for _ in 0..5 {
-        let start = Instant::now();
-        assert_eq!(seats::run_into(&bytes, &[0; 32], &seat_list, &mut out), list.len() as i64);
-        here = here.min(start.elapsed().as_secs_f64());
-        let start = Instant::now();
-        for seat in &list {
-            black_box(mesh.get_closest_points_on_layers(vec2(seat.x, seat.y), blocked.clone()));
-        }
-        rust = rust.min(start.elapsed().as_secs_f64());
+/// The Rust refuses as many polygons as question 9 does. It takes half a gigabyte to ask it, so the gate does not.
+fn rust_refuses_too_many() {
+    let layer =
+        |count: usize| Layer::new(vec![Vertex::new(vec2(0.0, 0.0), vec![])], vec![Polygon::EMPTY; count]).map(|layer| layer.polygons.len());
+    if layer(16_777_216) != Err(MeshError::TooManyPolygons) || layer(16_777_215) != Ok(16_777_215) {
+        fail("the Rust's limit of polygons is another");
     }
-    for (seat, record) in list.iter().zip(out.chunks(36)) {
-        assert_eq!(of_record(record), by_rust(&mesh, &blocked, seat), "{seat:?}");
-    }
-    let placed = out.chunks(36).filter(|r| r[..4] != [255; 4]).count();
-    let per = |t: f64| list.len() as f64 / t;
-    println!("ship: 4 decks of 1,500 polygons, S 8; {} seats, {} placed; best of 5 runs", list.len(), placed);
-    println!("seats a second: here {:.0}, the Rust, unbaked, {:.0}: {:.2} times the Rust's", per(here), per(rust), rust / here);
+    println!("compare: the Rust refuses 16,777,216 polygons and takes one less");
 }
