@@ -7,7 +7,7 @@ use crate::check::{expected, Ship};
 use crate::questions::file_passes;
 
 /// The folders of the two programs, and whether each has the run's calls or the others.
-pub const FOLDERS: [(&str, bool); 2] = [("run_answers", true), ("other_answers", false)];
+pub const FOLDERS: [(&str, bool); 2] = [("seats_answers", true), ("other_answers", false)];
 
 pub fn folder(name: &str) -> PathBuf {
     Path::new(env!("CARGO_MANIFEST_DIR")).join("../crates").join(name)
