@@ -12,6 +12,7 @@ use borrow.Author.Tests.{eq-eqb, ne-eqb}
 use Rattle.geometry.specs.declared.Vec2.{Vec2}
 use Rattle.words.specs.Bytes.{allOnes, bytes4, joined, wordsOf, splice}
 use Rattle.words.specs.Rows.{collect}
+use Rattle.words.proofs.Numbers.{length-words, splice-front}
 use Rattle.answers.specs.declared.Check.{Check}
 use Rattle.answers.specs.declared.Check.the-variants.{Passed, No}
 use Rattle.answers.specs.declared.Answer.{Answer}
@@ -30,7 +31,6 @@ use Rattle.survey.specs.declared.Seat.{Seat}
 use Rattle.numbering.specs.Numbers.{stepNumbers, stepMerged}
 use Rattle.candidates.specs.Candidates.{candidateCheck, givesNothing, foundPolygons, candidatePolygons, polygonTotal, candidatesWork, CandidatesWorked}
 use Rattle.candidates.specs.Written.{NumbersWorked, ListFits, NumbersMerged, foundMerged}
-use Rattle.candidates.proofs.ListedNumbers.{length-words, splice-front}
 
 -- ---- a list of polygons
 pub numbers-short : (polygons : List ℕ) {out work : List ℕ} → length out < numberSize * length polygons → NumbersWorked polygons out out work work (Refused 20)

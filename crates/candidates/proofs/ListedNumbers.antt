@@ -1,17 +1,16 @@
 -- The numbers of a step in a list of bytes: what is read back, what the merging of the list needs, and what stands there after it.
-use Prim.Native.Nat.{ℕ, zero, suc, _+_, _*_, _/_, _%_, _≤_, _<_}
+use Prim.Native.Nat.{ℕ, _+_, _*_, _≤_, _<_}
 use native.Mathlib.Omega.{arith}
-use native.Mathlib.Nat.{add-assoc}
 use mathlib.Core.Path.{_≡_, sym, _∙_}
 use mathlib.Core.Bool.{Bool, true}
-use mathlib.Core.List.{List, [], _∷_, _++_}
+use mathlib.Core.List.{List}
 use lib.IntN.{ℤ}
 use lib.ListN.{length, getD, drop}
-use lib.Seq.{getD-append-add, ext-getD}
-use Rattle.words.specs.Bytes.{u32At, bytes4, joined, wordsOf, splice}
+use lib.Seq.{ext-getD}
+use Rattle.words.specs.Bytes.{wordsOf, splice, numberAt}
 use Rattle.words.proofs.TableRows.{length-rows, getD-rows}
 use Rattle.words.proofs.Splice.{length-splice}
-use Rattle.words.proofs.Writing.{length-bytes4, length-joined}
+use Rattle.words.proofs.Numbers.{length-words, splice-front, words-read}
 use Rattle.answers.specs.Questions.{question20}
 use Rattle.answers.proofs.Asking.{q20-fits, q20-yes}
 use Rattle.ship.specs.Layout.{numberSize}
@@ -19,37 +18,15 @@ use Rattle.ship.specs.Decode.{decode}
 use Rattle.survey.specs.declared.Seat.{Seat}
 use Rattle.touching.specs.Touching.{touches}
 use Rattle.touching.proofs.Reaching.{merged-few}
-use Rattle.merging.specs.Merging.{numberAt, numbersIn, ListReady, ListMerged}
+use Rattle.merging.specs.Merging.{numbersIn, ListReady, ListMerged}
 use Rattle.numbering.specs.Numbers.{stepNumbers, stepMerged, StepCounted, NumbersFit}
 use Rattle.numbering.proofs.Numbers.{number-there, numbers-rise}
 use Rattle.candidates.specs.Written.{ListFits, NumbersMerged}
 
 -- ---- numbers read back
-u32At-past : (p q : List ℕ) (m : ℕ) → u32At (p ++ q) (length p + m) ≡ u32At q m
-unfolding u32At
-u32At-past p q m = simp (add-assoc, getD-append-add)
-
-word-back : (x : ℕ) → x % 256 + 256 * (x / 256 % 256) + 65536 * (x / 65536 % 256) + 16777216 * (x / 16777216) ≡ x
-word-back x = omega arith
-
-words-back : (xs rest : List ℕ) (k : ℕ) → k < length xs → u32At (wordsOf xs ++ rest) (numberSize * k) ≡ getD xs k 0
-unfolding joined bytes4 u32At
-words-back [] rest k h = absurd (omega arith)
-words-back (x ∷ xs) rest zero h = word-back x
-words-back (x ∷ xs) rest (suc k) h =
-    let e : numberSize * suc k ≡ length (bytes4 x) + numberSize * k = omega arith in
-    rw e (u32At-past (bytes4 x) (wordsOf xs ++ rest) (numberSize * k) ∙ words-back xs rest k (omega arith))
-
-pub length-words : (xs : List ℕ) → length (wordsOf xs) ≡ numberSize * length xs
-length-words xs = length-joined bytes4 numberSize length-bytes4 xs
-
-pub splice-front : (s xs : List ℕ) → splice s 0 xs ≡ xs ++ drop (length xs) s
-unfolding splice
-splice-front s xs = let e : 0 + length xs ≡ length xs = omega arith in rw e
-
 module _ (list xs : List ℕ) {list′ : List ℕ} (put : list′ ≡ splice list 0 (wordsOf xs)) where
   number-back : (k : ℕ) → k < length xs → numberAt list′ k ≡ getD xs k 0
-  number-back k h = rw (put, splice-front list (wordsOf xs)) (words-back xs (drop (length (wordsOf xs)) list) k h)
+  number-back k h = rw (put, splice-front list (wordsOf xs)) (words-read xs (drop (length (wordsOf xs)) list) k h)
 
   numbers-back : numbersIn list′ (length xs) ≡ xs
   numbers-back =

@@ -5,7 +5,7 @@ use mathlib.Core.Path.{_≡_, ap, subst, _∙_}
 use mathlib.Core.List.{List, _++_}
 use lib.Dec.{T}
 use lib.ListN.{length, drop, replicate}
-use Rattle.words.specs.Bytes.{wordsOf}
+use Rattle.words.specs.Bytes.{wordsOf, numberAt}
 use Rattle.ship.specs.declared.Blocks.{Blocks}
 use Rattle.ship.specs.Layout.{numberSize}
 use Rattle.ship.specs.Decode.{deckAt}
@@ -15,7 +15,7 @@ use Rattle.ship.proofs.ModelFacts.{polygons-length}
 use Rattle.islands.specs.Reach.{here}
 use Rattle.islands.specs.Labels.{labelsBy}
 use Rattle.islands.specs.Islands.{names, deckLabels}
-use Rattle.islands.specs.Walk.{numberIn, noLabel, Marked, MarkReady, Swept, Frame, PolygonReady, PolygonRead, WalkReady, Walked, LabelReady, LabelsPut}
+use Rattle.islands.specs.Walk.{noLabel, Marked, MarkReady, Swept, Frame, PolygonReady, PolygonRead, WalkReady, Walked, LabelReady, LabelsPut}
 use Rattle.islands.proofs.Numbers.{filled-long, filled-rest}
 use Rattle.islands.proofs.Marking.{frame-none, frame-then, mark-ready}
 use Rattle.islands.proofs.Sweeping.{Queueing, queue-first, first-frame, queue-reached, queue-inside, queue-more, queue-done, swept-first, swept-last}
@@ -53,7 +53,7 @@ module _ {file : List ℕ} {b : Blocks} {i : ℕ} where
     pub walk-place : numberSize * head + numberSize ≤ length work
     walk-place = omega (arith, x .queue .long, x .queue .walking .wide)
 
-    module _ {k : ℕ} (is : k ≡ numberIn work head) where
+    module _ {k : ℕ} (is : k ≡ numberAt work head) where
       pub walk-polygon : PolygonReady file b k i out work tail
       walk-polygon =
           let q = x .queue in

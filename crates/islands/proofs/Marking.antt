@@ -10,29 +10,30 @@ use mir.Syntax.{w64}
 use mir.Val.{Fits}
 use lib.ListN.{length}
 use borrow.Author.Tests.{eq-eqb, ne-eqb}
-use Rattle.words.specs.Bytes.{putU32}
+use Rattle.words.specs.Bytes.{putU32, numberAt}
 use Rattle.ship.specs.Layout.{numberSize}
 use Rattle.islands.specs.Reach.{Reaches, IsLabel}
-use Rattle.islands.specs.Walk.{numberIn, noLabel, hasLabel, Labelled, Marked, MarkReady, Walking, Frame, Queued, Later, Spread}
+use Rattle.islands.specs.Walk.{noLabel, hasLabel, Labelled, Marked, MarkReady, Walking, Frame, Queued, Later, Spread}
 use Rattle.islands.proofs.Reaching.{reach-inside}
 use Rattle.islands.proofs.Counts.{one-more, not-all}
-use Rattle.islands.proofs.Numbers.{put-long, put-here, put-other, number-written, rest-kept}
+use Rattle.words.proofs.Numbers.{put-at}
+use Rattle.islands.proofs.Numbers.{number-written, rest-kept}
 
 -- ---- whether a place has a label
 module _ (out : List ℕ) (k : ℕ) where
-  pub label-none : numberIn out k ≡ noLabel → hasLabel out k ≡ false
+  pub label-none : numberAt out k ≡ noLabel → hasLabel out k ≡ false
   unfolding hasLabel
-  label-none e = rw (eq-eqb (numberIn out k) noLabel e)
+  label-none e = rw (eq-eqb (numberAt out k) noLabel e)
 
-  pub label-some : (numberIn out k ≡ noLabel → ⊥) → Labelled out k
+  pub label-some : (numberAt out k ≡ noLabel → ⊥) → Labelled out k
   unfolding hasLabel
-  label-some d = rw (ne-eqb (numberIn out k) noLabel d)
+  label-some d = rw (ne-eqb (numberAt out k) noLabel d)
 
   pub labelled-not : hasLabel out k ≡ false → Labelled out k → ⊥
   labelled-not e l = let z : _≡_ {A = ℕ} 0 1 = cc in omega arith
 
 -- ---- `mark`; r is the number that was read in e's place
-module _ {e i tail : ℕ} {out work : List ℕ} {r : ℕ} (read : r ≡ numberIn out e) where
+module _ {e i tail : ℕ} {out work : List ℕ} {r : ℕ} (read : r ≡ numberAt out e) where
   pub had-label : (r ≡ noLabel → ⊥) → Marked e i tail out out work work tail
   had-label d =
       let h = label-some out e (λ z. d (read ∙ z)) in
@@ -93,7 +94,7 @@ module _ {names : ℕ → ℕ → Bool} {n i : ℕ} where
       second : (k : ℕ) → Queued work″ tail′ tail″ k → Queued work″ tail tail″ k
       second k y = record { at = y .at; low = omega (arith, y .low, f .order); high = y .high; is = y .is }
 
-      from : (q : ℕ) → tail ≤ q → q < tail″ → Dec (q < tail′) → Reaches names i (numberIn work″ q)
+      from : (q : ℕ) → tail ≤ q → q < tail″ → Dec (q < tail′) → Reaches names i (numberAt work″ q)
       from q lo hi (yes h) = subst (Reaches names i) (sym (g .same q h)) (f .reached q lo h)
       from q lo hi (no h) = g .reached q (omega arith) hi
 
@@ -143,11 +144,11 @@ module _ {names : ℕ → ℕ → Bool} {n i : ℕ} {out work : List ℕ} {tail 
       queue-room : numberSize * tail + numberSize ≤ length work
       queue-room = omega (arith, queue-fits below was, w .wide)
 
-      new-label : numberIn out′ e ≡ i
-      new-label = rw oe (put-here out e i place-room)
+      new-label : numberAt out′ e ≡ i
+      new-label = put-at place-room oe .there
 
-      old-label : (k : ℕ) → (k ≡ e → ⊥) → numberIn out′ k ≡ numberIn out k
-      old-label k d = rw oe (put-other out e i place-room k d)
+      old-label : (k : ℕ) → (k ≡ e → ⊥) → numberAt out′ k ≡ numberAt out k
+      old-label k d = put-at place-room oe .others k d
 
       old-has : (k : ℕ) → (k ≡ e → ⊥) → hasLabel out′ k ≡ hasLabel out k
       unfolding hasLabel
@@ -156,8 +157,8 @@ module _ {names : ℕ → ℕ → Bool} {n i : ℕ} {out work : List ℕ} {tail 
       new-has : Labelled out′ e
       new-has = label-some out′ e (λ z. omega (arith, w .few, small, new-label, z))
 
-      new-place : numberIn work′ tail ≡ e
-      new-place = rw we (put-here work tail e queue-room)
+      new-place : numberAt work′ tail ≡ e
+      new-place = put-at queue-room we .there
 
       put-kept : (k : ℕ) → Labelled out k → Labelled out′ k
       put-kept k l = old-has k (λ z. labelled-not out e was (rw z at l)) ∙ l
@@ -170,18 +171,18 @@ module _ {names : ℕ → ℕ → Bool} {n i : ℕ} {out work : List ℕ} {tail 
           go m x (yes p) = absurd (labelled-not out e was (w .past m e p below x))
           go m x (no p) = omega arith
 
-      put-right : (k : ℕ) → k < n → Labelled out′ k → IsLabel names k (numberIn out′ k)
+      put-right : (k : ℕ) → k < n → Labelled out′ k → IsLabel names k (numberAt out′ k)
       put-right k b x = go (ℕ-discrete k e)
         where
-          go : Dec (k ≡ e) → IsLabel names k (numberIn out′ k)
+          go : Dec (k ≡ e) → IsLabel names k (numberAt out′ k)
           go (yes p) = rw (p, new-label) label-is
           go (no d) = rw (old-label k d) (w .right k b (sym (old-has k d) ∙ x))
 
       put-frame : Frame n out out′ work work′
       put-frame =
           record {
-            out-long = rw oe (put-long out e i place-room);
-            work-long = rw we (put-long work tail e queue-room);
+            out-long = put-at place-room oe .long;
+            work-long = put-at queue-room we .long;
             rest = rest-kept (w .labels) e i below oe;
           }
 
@@ -204,7 +205,7 @@ module _ {names : ℕ → ℕ → Bool} {n i : ℕ} {out work : List ℕ} {tail 
             frame = put-frame;
             order = omega arith;
             kept = put-kept;
-            same = λ q h. rw we (put-other work tail e queue-room q (λ z. omega arith));
+            same = λ q h. put-at queue-room we .others q (λ z. omega arith);
             new = λ k h l. at-new k l (ℕ-discrete k e);
             reached = λ q lo hi. let z : q ≡ tail = omega arith in rw (z, new-place) r;
           }

@@ -8,11 +8,11 @@ use mathlib.Core.Logic.{_⊎_, inl, inr, ⊎-elim}
 use mathlib.Core.List.{List, _++_}
 use lib.Dec.{T}
 use lib.ListN.{length, drop, replicate}
-use Rattle.words.specs.Bytes.{wordsOf}
+use Rattle.words.specs.Bytes.{wordsOf, numberAt}
 use Rattle.ship.specs.Layout.{numberSize}
 use Rattle.islands.specs.Reach.{Reaches, here, IsLabel}
 use Rattle.islands.specs.Labels.{labelsBy}
-use Rattle.islands.specs.Walk.{numberIn, noLabel, hasLabel, Labelled, Marked, Walking, Closed, Swept, Frame, Queued, Spread}
+use Rattle.islands.specs.Walk.{noLabel, hasLabel, Labelled, Marked, Walking, Closed, Swept, Frame, Queued, Spread}
 use Rattle.islands.proofs.Reaching.{along, reach-inside, labels-unique}
 use Rattle.islands.proofs.Through.{labels-by}
 use Rattle.islands.proofs.Counts.{none-pass, at-most}
@@ -26,7 +26,7 @@ pub record Queueing (names : ℕ → ℕ → Bool) (n i : ℕ) (out₀ out work�
   pub order : head ≤ tail
   pub long : tail ≤ n
   pub mine : Labelled out i
-  pub waits : (q : ℕ) → head ≤ q → q < tail → Reaches names i (numberIn work q)
+  pub waits : (q : ℕ) → head ≤ q → q < tail → Reaches names i (numberAt work q)
   -- what has a label has named none but labelled polygons, or waits
   pub closed : (k : ℕ) → k < n → Labelled out k → Closed names out k ⊎ Queued work head tail k
   pub frame : Frame n out₀ out work₀ work
@@ -57,7 +57,7 @@ module _ {names : ℕ → ℕ → Bool} {n i : ℕ} where
     first-frame f = frame-then (first-spread .later .frame) f
 
   module _ {out₀ out work₀ work : List ℕ} {tail head : ℕ} (x : Queueing names n i out₀ out work₀ work tail head) where
-    module _ (h : head < tail) {k : ℕ} (is : k ≡ numberIn work head) where
+    module _ (h : head < tail) {k : ℕ} (is : k ≡ numberAt work head) where
       pub queue-reached : Reaches names i k
       queue-reached = rw is (x .waits head (omega arith) h)
 
@@ -81,7 +81,7 @@ module _ {names : ℕ → ℕ → Bool} {n i : ℕ} where
             frame = frame-then (x .frame) (s .later .frame);
           }
         where
-          wait : (q : ℕ) → head + 1 ≤ q → q < tail′ → Dec (q < tail) → Reaches names i (numberIn work′ q)
+          wait : (q : ℕ) → head + 1 ≤ q → q < tail′ → Dec (q < tail) → Reaches names i (numberAt work′ q)
           wait q a b (yes l) = subst (Reaches names i) (sym (s .later .same q l)) (x .waits q (omega arith) l)
           wait q a b (no l) = s .later .reached q (omega arith) b
 
@@ -90,7 +90,7 @@ module _ {names : ℕ → ℕ → Bool} {n i : ℕ} where
 
           old : (m : ℕ) (z : Queued work head tail m) → Dec (z .at ≡ head) → Closed names out′ m ⊎ Queued work′ (head + 1) tail′ m
           old m z (yes p) =
-              let e : k ≡ m = is ∙ ap (numberIn work) (sym p) ∙ z .is in
+              let e : k ≡ m = is ∙ ap (numberAt work) (sym p) ∙ z .is in
               inl (subst (Closed names out′) e (record { all = λ b t. s .all b (named b t) }))
           old m z (no d) =
               inr (record { at = z .at; low = omega (arith, z .low, d); high = omega (arith, z .high, s .later .order); is = s .later .same (z .at) (z .high) ∙ z .is })
@@ -151,7 +151,7 @@ module _ {names : ℕ → ℕ → Bool} {n : ℕ} where
   pub swept-last : {out work : List ℕ} {tail : ℕ} → Swept names n n out work tail → out ≡ wordsOf (labelsBy names n) ++ drop (numberSize * n) out
   swept-last {out} s =
       let w = s .walking in
-      let each : (k : ℕ) → k < n → IsLabel names k (numberIn out k) = λ k h. w .right k h (w .past k k h h here) in
+      let each : (k : ℕ) → k < n → IsLabel names k (numberAt out k) = λ k h. w .right k h (w .past k k h h here) in
       w .labels .bytes
       ∙ ap (λ (l : List ℕ). wordsOf l ++ drop (numberSize * n) out)
       (labels-unique (record { long = w .labels .long; each = λ k h. subst (IsLabel names k) (number-read (w .labels) k h) (each k h) }) (labels-by names (w .inside)))

@@ -6,7 +6,7 @@ use mathlib.Core.Logic.{_⊎_}
 use mathlib.Core.List.{List, _++_}
 use lib.Dec.{T, eqb}
 use lib.ListN.{length, getD, drop, replicate}
-use Rattle.words.specs.Bytes.{allOnes, u32At, wordsOf, putU32}
+use Rattle.words.specs.Bytes.{allOnes, numberAt, wordsOf, putU32}
 use Rattle.words.specs.Rows.{howMany}
 use Rattle.ship.specs.declared.Blocks.{Blocks}
 use Rattle.ship.specs.Layout.{numberSize}
@@ -16,16 +16,12 @@ use Rattle.ship.specs.Questions.{DeckOfPassed}
 use Rattle.islands.specs.Reach.{Reaches, IsLabel}
 use Rattle.islands.specs.Islands.{listOf, names, deckLabels, question19}
 
--- number k of a slice of numbers
-abbrev pub numberIn : List ℕ → ℕ → ℕ
-numberIn s k = u32At s (numberSize * k)
-
 -- in a label's place: none yet. Question 9 leaves no polygon of that number.
 abbrev pub noLabel : ℕ
 noLabel = allOnes
 
 unfoldable pub hasLabel : List ℕ → ℕ → Bool
-hasLabel out k = not (eqb (numberIn out k) noLabel)
+hasLabel out k = not (eqb (numberAt out k) noLabel)
 
 abbrev pub Labelled : List ℕ → ℕ → Type 0
 Labelled out k = hasLabel out k ≡ true
@@ -57,7 +53,7 @@ pub record Walking (names : ℕ → ℕ → Bool) (n i : ℕ) (out work : List �
   pub wide : numberSize * n ≤ length work
   pub labels : Numbers n out
   -- each label is the final one
-  pub right : (k : ℕ) → k < n → Labelled out k → IsLabel names k (numberIn out k)
+  pub right : (k : ℕ) → k < n → Labelled out k → IsLabel names k (numberAt out k)
   -- what a number below i reaches has one
   pub past : (m k : ℕ) → m < i → k < n → Reaches names m k → Labelled out k
   -- the queue is as long as the labels are many
@@ -84,16 +80,16 @@ pub record Queued (work : List ℕ) (head tail k : ℕ) : Type 0 where
   pub at : ℕ
   pub low : head ≤ at
   pub high : at < tail
-  pub is : numberIn work at ≡ k
+  pub is : numberAt work at ≡ k
 
 -- labels stay, and what is new stands at the end of the queue, and i reaches it
 pub record Later (names : ℕ → ℕ → Bool) (n i : ℕ) (out out′ work work′ : List ℕ) (tail tail′ : ℕ) : Type 0 where
   pub frame : Frame n out out′ work work′
   pub order : tail ≤ tail′
   pub kept : (k : ℕ) → Labelled out k → Labelled out′ k
-  pub same : (q : ℕ) → q < tail → numberIn work′ q ≡ numberIn work q
+  pub same : (q : ℕ) → q < tail → numberAt work′ q ≡ numberAt work q
   pub new : (k : ℕ) → k < n → Labelled out′ k → Labelled out k ⊎ Queued work′ tail tail′ k
-  pub reached : (q : ℕ) → tail ≤ q → q < tail′ → Reaches names i (numberIn work′ q)
+  pub reached : (q : ℕ) → tail ≤ q → q < tail′ → Reaches names i (numberAt work′ q)
 
 -- every polygon of a kind has a label then
 pub record Spread (names : ℕ → ℕ → Bool) (n i : ℕ) (kind : ℕ → Type 0) (out out′ work work′ : List ℕ) (tail tail′ : ℕ) : Type 0 where

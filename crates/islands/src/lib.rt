@@ -5,13 +5,13 @@ ghost use mathlib.Core.List.{_++_};
 ghost use Prim.Native.Nat.{_+_, _*_, _≤_, _<_};
 ghost use lib.Dec.{eqb, ltb};
 ghost use lib.ListN.{length, drop, replicate};
-ghost use Rattle.words.specs.Bytes.{allOnes, wordsOf, putU32};
+ghost use Rattle.words.specs.Bytes.{allOnes, wordsOf, putU32, numberAt};
 ghost use Rattle.ship.specs.Layout.{numberSize};
 ghost use Rattle.ship.specs.Model.{neighboursOf};
 ghost use Rattle.ship.specs.Decode.{deckAt};
 ghost use Rattle.ship.specs.Questions.{DeckOfPassed};
 ghost use Rattle.islands.specs.Islands.{listInside, polygonInside, question19, islandsCheck, IslandsWorked, LabelsLeast};
-ghost use Rattle.islands.specs.Walk.{numberIn, noLabel, Marked, MarkReady, ListReady, ListRead, PolygonReady, PolygonRead};
+ghost use Rattle.islands.specs.Walk.{noLabel, Marked, MarkReady, ListReady, ListRead, PolygonReady, PolygonRead};
 ghost use Rattle.islands.specs.Walk.{WalkReady, Walked, LabelReady, LabelsPut};
 use answers::Answer;
 use answers::Check;
@@ -24,7 +24,7 @@ const ALL_ONES: usize = 0xFFFF_FFFF;
 // Number k of a slice.
 fn number_at(s: &[u8], k: usize) -> usize
     requires { ⌜ numberSize * k + numberSize ≤ length (now s) ⌝ }
-    ensures { λ r. ⌜ r ≡ numberIn (now (s .entry)) k ⌝ }
+    ensures { λ r. ⌜ r ≡ numberAt (now (s .entry)) k ⌝ }
 {
     words::size_at(s, NUMBER_SIZE * k)
 }

@@ -13,7 +13,8 @@ use Rattle.geometry.specs.declared.Vec2.{Vec2}
 use Rattle.words.specs.Bytes.{allOnes, bytes4, wordsOf, splice, putU32}
 use Rattle.words.specs.Rows.{collect}
 use Rattle.words.proofs.Collecting.{collect-yes, collect-no, collect-none, length-collect, sum-bound}
-use Rattle.words.proofs.Writing.{Rest, rest-all, rest-more-front, rest-front, length-bytes4, length-joined, next-of}
+use Rattle.words.proofs.Numbers.{length-words}
+use Rattle.words.proofs.Writing.{Rest, rest-all, rest-more-front, rest-front, length-bytes4, next-of}
 use Rattle.answers.specs.declared.Check.{Check}
 use Rattle.answers.specs.declared.Check.the-variants.{Passed, No}
 use Rattle.answers.specs.declared.Answer.the-variants.{Refused, Wrote}
@@ -124,7 +125,7 @@ module _ {file : List ℕ} {p : Vec2} {deck : ℕ} {list₀ list : List ℕ} {n 
 
     pub listing-bytes : take (4 * n) list ≡ wordsOf (pointLayer file p deck)
     listing-bytes =
-        let long = length-joined bytes4 4 length-bytes4 (pointLayer file p deck) in
+        let long = length-words (pointLayer file p deck) in
         rw (rest-front (h .rest) length-bytes4 ended) (take-at (wordsOf (pointLayer file p deck)) _ (4 * n) (long ∙ rw listing-count))
 
   module _ {r : Bool} (l : e < count) (asked : r ≡ looksAt deck e) where
@@ -183,7 +184,7 @@ point-passed file p asked passed = both-passed (firstNo file) _ (sym asked ∙ p
 -- ---- `get_point_layer`
 module _ (file : List ℕ) (p : Vec2) (deck : ℕ) {count : ℕ} (counted : count ≡ length (pointLayer file p deck)) where
   layer-long : length (wordsOf (pointLayer file p deck)) ≡ 4 * count
-  layer-long = length-joined bytes4 4 length-bytes4 (pointLayer file p deck) ∙ rw counted
+  layer-long = length-words (pointLayer file p deck) ∙ rw counted
 
   module _ {r : Check} (asked : r ≡ pointCheck file p) (passed : r ≡ Passed) (out : List ℕ) {fits : Bool} (room : fits ≡ question20 (4 * count) (length out)) where
     pub layer-short : not fits ≡ true → Replied (layerReply file p deck) out out (Refused 20)

@@ -8,13 +8,13 @@ use mathlib.Core.List.{List}
 use lib.Dec.{T}
 use lib.ListN.{length}
 use borrow.Author.Tests.{not-true, not-false}
+use Rattle.words.specs.Bytes.{numberAt}
 use Rattle.words.specs.Rows.{has}
 use Rattle.words.proofs.Collecting.{holds}
 use Rattle.ship.specs.Layout.{numberSize}
 use Rattle.ship.specs.Decode.{decode}
 use Rattle.touching.specs.Touching.{touches, TouchReady}
 use Rattle.touching.specs.Reach.{Chain, here, on}
-use Rattle.merging.specs.Merging.{numberAt}
 use Rattle.merging.specs.Flood.{Reordered, SwapReady, Swapped, PartReady, Parted, FloodReady, Flooded}
 use Rattle.merging.proofs.Places.{number-before, reordered-none, reordered-from, reordered-again, reordered-swap}
 

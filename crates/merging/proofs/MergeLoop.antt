@@ -8,17 +8,18 @@ use mathlib.Core.Bool.{false}
 use mathlib.Core.List.{List, [], _∷_, _++_, append-assoc, append-nil}
 use lib.Dec.{T}
 use lib.ListN.{length, getD, take, length-append}
-use Rattle.words.specs.Bytes.{joined, wordsOf, putU32}
+use Rattle.words.specs.Bytes.{joined, wordsOf, putU32, numberAt}
 use Rattle.words.specs.Rows.{has}
 use Rattle.words.proofs.Collecting.{three, not-holds, collect-none}
+use Rattle.words.proofs.Numbers.{PutAt, put-at}
 use Rattle.ship.specs.Layout.{numberSize}
 use Rattle.ship.specs.Decode.{decode}
 use Rattle.touching.specs.Touching.{touches}
 use Rattle.touching.specs.Reach.{Chain, here, on}
-use Rattle.merging.specs.Merging.{numberAt, numbersIn, staying, ListReady, ListMerged}
+use Rattle.merging.specs.Merging.{numbersIn, staying, ListReady, ListMerged}
 use Rattle.merging.specs.Flood.{RisingFrom, StandsIn, FloodReady, Flooded}
 use Rattle.merging.proofs.Staying.{number-is, numbers-have, numbers-which, words-snoc, take-same, take-put, Dropped, stays, stayingFrom, staying-all, stays-yes, stays-no, staying-step}
-use Rattle.merging.proofs.Places.{PutAt, put-at, least, reordered-from}
+use Rattle.merging.proofs.Places.{least, reordered-from}
 
 -- the place in the list at first of the first number that is left, or the list's end
 record Front (list₀ list : List ℕ) (n t : ℕ) : Type 0 where

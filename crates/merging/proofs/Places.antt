@@ -1,42 +1,15 @@
--- Numbers at places: one that is put there, two that change places, and the same numbers in another order.
-use Prim.Native.Nat.{ℕ, _+_, _*_, _<_, _≤_}
+-- Numbers at places: two that change places, and the same numbers in another order.
+use Prim.Native.Nat.{ℕ, _*_, _<_, _≤_}
 use native.Mathlib.Omega.{arith}
 use native.Mathlib.Decide.{ℕ-discrete, decLe}
 use mathlib.Core.Path.{_≡_, refl, sym, _∙_}
-use mathlib.Core.Logic.{_⊎_, inl, inr}
 use mathlib.Core.List.{List}
-use lib.ListN.{length}
-use Rattle.words.specs.Bytes.{byteAt, bytes4, putU32}
-use Rattle.words.proofs.Splice.{length-splice, getD-splice-before, u32At-same, u32At-splice-before, u32At-splice-after, u32At-bytes4}
-use Rattle.words.proofs.Writing.{length-bytes4}
-use Rattle.words.proofs.Collecting.{three, from-next}
+use Rattle.words.specs.Bytes.{putU32, numberAt}
+use Rattle.words.proofs.Splice.{u32At-same}
+use Rattle.words.proofs.Collecting.{from-next}
+use Rattle.words.proofs.Numbers.{PutAt, put-at}
 use Rattle.ship.specs.Layout.{numberSize}
-use Rattle.merging.specs.Merging.{numberAt}
 use Rattle.merging.specs.Flood.{RisingFrom, StandsIn, Reordered, SwapReady, Swapped}
-
--- ---- a number that is put at a place
-pub record PutAt (list list′ : List ℕ) (i x : ℕ) : Type 0 where
-  pub long : length list′ ≡ length list
-  pub before : (k : ℕ) → k < numberSize * i → byteAt list′ k ≡ byteAt list k
-  pub there : numberAt list′ i ≡ x
-  pub others : (k : ℕ) → (k ≡ i → ⊥) → numberAt list′ k ≡ numberAt list k
-
-pub put-at : {list list′ : List ℕ} {i x : ℕ} → numberSize * i + numberSize ≤ length list → list′ ≡ putU32 list (numberSize * i) x → PutAt list list′ i x
-put-at {list} {list′} {i} {x} room e =
-    record {
-      long = rw e (length-splice list (numberSize * i) (bytes4 x) fits);
-      before = λ k h. rw e (getD-splice-before list (numberSize * i) (bytes4 x) k (omega arith) h);
-      there = rw e (u32At-bytes4 list (numberSize * i) x room);
-      others = λ k d. rw e (other k d (three k i));
-    }
-  where
-    fits : numberSize * i + length (bytes4 x) ≤ length list
-    fits = omega (arith, length-bytes4 x)
-
-    other : (k : ℕ) → (k ≡ i → ⊥) → (k < i) ⊎ (k ≡ i) ⊎ (i < k) → numberAt (putU32 list (numberSize * i) x) k ≡ numberAt list k
-    other k d (inl l) = u32At-splice-before list (numberSize * i) (bytes4 x) (numberSize * k) (omega arith) (omega arith)
-    other k d (inr (inl q)) = absurd (d q)
-    other k d (inr (inr l)) = u32At-splice-after list (numberSize * i) (bytes4 x) (numberSize * k) fits (omega (arith, length-bytes4 x))
 
 -- ---- two that change places
 pub swapped : {list list₁ list₂ : List ℕ} {i w x y : ℕ} → SwapReady list i w → x ≡ numberAt list i → y ≡ numberAt list w → list₁ ≡ putU32 list (numberSize * w) x

@@ -8,7 +8,7 @@ use lib.Dec.{T}
 use lib.Ieee.Bits.{is-true}
 use lib.ListN.{length, getD, take, length-append}
 use lib.Seq.{ext-getD, getD-take, length-take-le, take-at}
-use Rattle.words.specs.Bytes.{byteAt, bytes4, joined, wordsOf, splice, putU32}
+use Rattle.words.specs.Bytes.{byteAt, bytes4, joined, wordsOf, splice, putU32, numberAt}
 use Rattle.words.specs.Rows.{has, collect}
 use Rattle.words.proofs.TableRows.{length-rows, getD-rows}
 use Rattle.words.proofs.Collecting.{holds, collect-yes, collect-no}
@@ -17,7 +17,7 @@ use Rattle.ship.specs.Decode.{decode}
 use Rattle.touching.specs.Touching.{touches}
 use Rattle.touching.specs.Reach.{Drops, drops, merged, MergedSound}
 use Rattle.touching.proofs.Reaching.{has-at, has-which, merged-sound}
-use Rattle.merging.specs.Merging.{numberAt, numbersIn, staying}
+use Rattle.merging.specs.Merging.{numbersIn, staying}
 use Rattle.merging.specs.Flood.{StandsIn}
 
 -- ---- the numbers of a list

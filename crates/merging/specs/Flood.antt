@@ -5,7 +5,7 @@ use mathlib.Core.Bool.{true, false}
 use mathlib.Core.List.{List}
 use lib.Dec.{T}
 use lib.ListN.{length}
-use Rattle.words.specs.Bytes.{byteAt}
+use Rattle.words.specs.Bytes.{byteAt, numberAt}
 use Rattle.words.specs.Rows.{has}
 use Rattle.answers.specs.declared.Check.the-variants.{Passed}
 use Rattle.ship.specs.Layout.{numberSize}
@@ -13,7 +13,6 @@ use Rattle.ship.specs.Decode.{decode}
 use Rattle.ship.specs.Questions.{firstNo}
 use Rattle.touching.specs.Touching.{touches, PolygonThere, TouchReady}
 use Rattle.touching.specs.Reach.{Chain}
-use Rattle.merging.specs.Merging.{numberAt}
 
 -- ---- places
 -- the numbers at the places from t up to n rise

@@ -3,7 +3,7 @@ use Prim.Native.Nat.{ℕ, _*_, _<_, _≤_}
 use mathlib.Core.Path.{_≡_}
 use mathlib.Core.List.{List}
 use lib.ListN.{length}
-use Rattle.words.specs.Bytes.{u32At, slice, wordsOf}
+use Rattle.words.specs.Bytes.{numberAt, slice, wordsOf}
 use Rattle.words.specs.Rows.{rows}
 use Rattle.answers.specs.declared.Check.the-variants.{Passed}
 use Rattle.ship.specs.Layout.{numberSize}
@@ -11,9 +11,6 @@ use Rattle.ship.specs.Decode.{decode}
 use Rattle.ship.specs.Questions.{firstNo}
 use Rattle.touching.specs.Touching.{touches, PolygonThere}
 use Rattle.touching.specs.Reach.{merged}
-
-abbrev pub numberAt : List ℕ → ℕ → ℕ
-numberAt list k = u32At list (numberSize * k)
 
 -- the first n numbers
 abbrev pub numbersIn : List ℕ → ℕ → List ℕ

@@ -1,5 +1,5 @@
 -- Records as bytes: each has `recordSize` of them, and what is read back is what was written.
-use Prim.Native.Nat.{ℕ, zero, suc, _+_, _*_, _/_, _%_, _<_}
+use Prim.Native.Nat.{ℕ, zero, suc, _+_, _*_, _<_}
 use native.Mathlib.Omega.{arith}
 use native.Mathlib.Nat.{add-assoc}
 use mathlib.Core.Path.{_≡_, sym, ap, _∙_}
@@ -7,7 +7,8 @@ use mathlib.Core.List.{List, [], _∷_, _++_, append-assoc}
 use lib.ListN.{length, getD, drop}
 use lib.Seq.{take-at, drop-append-add, getD-take, getD-drop, ext-getD}
 use Rattle.words.specs.Bytes.{u32At, bytes4, joined, wordsOf, splice}
-use Rattle.words.proofs.Writing.{length-bytes4, length-joined}
+use Rattle.words.proofs.Writing.{length-joined}
+use Rattle.words.proofs.Numbers.{length-words, word-back}
 use Rattle.words.proofs.TableRows.{length-rows, getD-rows}
 use Rattle.records.specs.declared.SeatRecord.{SeatRecord}
 use Rattle.records.specs.Record.{recordSize, recordWords, recordBytes, recordsBytes, wordAt, recordAt, recordsIn, recordSlice, unplacedRecord}
@@ -28,7 +29,7 @@ nine-written r out at e = e
 -- ---- lengths
 pub record-length : (r : SeatRecord) → length (recordBytes r) ≡ recordSize
 unfolding recordBytes
-record-length r = length-joined bytes4 4 length-bytes4 (recordWords r)
+record-length r = length-words (recordWords r)
 
 pub records-length : (rs : List SeatRecord) → length (recordsBytes rs) ≡ recordSize * length rs
 records-length rs = length-joined recordBytes recordSize record-length rs
@@ -47,9 +48,6 @@ slice-written (r ∷ rs) rest (suc i) h =
     rw (append-assoc, e, drop-append-add) (slice-written rs rest i (omega arith))
 
 -- ---- a record is read from its bytes
-word-back : (x : ℕ) → x % 256 + 256 * (x / 256 % 256) + 65536 * (x / 65536 % 256) + 16777216 * (x / 16777216) ≡ x
-word-back x = omega arith
-
 record-back : (r : SeatRecord) → recordAt (recordBytes r) 0 ≡ r
 unfolding recordAt recordBytes joined bytes4 u32At
 record-back r =

@@ -7,8 +7,7 @@ use lib.Ieee.{Float}
 use lib.IntN.{ℤ}
 use lib.ListN.{length}
 use Rattle.geometry.specs.declared.Vec2.{Vec2}
-use Rattle.words.specs.Bytes.{bytes4}
-use Rattle.words.proofs.Writing.{length-bytes4, length-joined}
+use Rattle.words.proofs.Numbers.{length-words}
 use Rattle.answers.specs.declared.Answer.{Answer}
 use Rattle.answers.specs.Replies.{Replied, AnswerFits}
 use Rattle.answers.proofs.Replying.{replied-fits, replied-code, worked-code, worked-length}
@@ -37,14 +36,14 @@ module _ (file : List ℕ) (p : Vec2) (deck : ℕ) (blocked : List ℕ) {out out
   point-code h l = replied-fits h (omega (arith, length-candidates (shownBy file p) (closestPoint file p deck blocked))) l
 
 pub height-code : (file : List ℕ) (p : Vec2) (polygon : ℕ) {out out′ : List ℕ} {r : Answer} → Replied (heightReply file p polygon) out out′ r → length out < 2 ^ 64 → AnswerFits r
-height-code file p polygon h l = replied-fits h (omega (arith, length-joined bytes4 4 length-bytes4 (heightEntry (heightCall file p polygon)))) l
+height-code file p polygon h l = replied-fits h (omega (arith, length-words (heightEntry (heightCall file p polygon)))) l
 
 pub run-code : (file blocked seats : List ℕ) {out out′ : List ℕ} {r : Answer} → Replied (runReply file blocked seats) out out′ r → length out < 2 ^ 64 → AnswerFits r
 run-code file blocked seats h l = replied-fits h (omega (arith, records-length (runRecords file blocked seats))) l
 
 -- ---- section 8
 pub layer-code : (file : List ℕ) (p : Vec2) (deck : ℕ) {out out′ : List ℕ} {r : Answer} → Replied (layerReply file p deck) out out′ r → length out < 2 ^ 64 → AnswerFits r
-layer-code file p deck h l = replied-fits h (omega (arith, length-joined bytes4 4 length-bytes4 (pointLayer file p deck))) l
+layer-code file p deck h l = replied-fits h (omega (arith, length-words (pointLayer file p deck))) l
 
 pub islands-code : (file : List ℕ) (deck : ℕ) {out out′ work work′ : List ℕ} {r : Answer} → IslandsWorked file deck out out′ work work′ r → length out < 2 ^ 64 → AnswerFits r
 islands-code file deck h l = replied-fits (h .replied) (omega (arith, islands-long file deck)) l
@@ -52,7 +51,7 @@ islands-code file deck h l = replied-fits (h .replied) (omega (arith, islands-lo
 pub candidates-code : (file : List ℕ) (p : Vec2) (deck polygon : ℕ) (blocked : List ℕ) {out out′ work work′ : List ℕ} {r : Answer}
     → CandidatesWorked file p deck polygon blocked out out′ work work′ r → length out < 2 ^ 64 → AnswerFits r
 candidates-code file p deck polygon blocked h l =
-    replied-fits (h .replied) (omega (arith, length-joined bytes4 4 length-bytes4 (candidatePolygons file p deck polygon blocked))) l
+    replied-fits (h .replied) (omega (arith, length-words (candidatePolygons file p deck polygon blocked))) l
 
 pub stitches-code : (file : List ℕ) {out out′ : List ℕ} {r : Answer} → Replied (stitchPointsReply file) out out′ r → length out < 2 ^ 64 → AnswerFits r
 stitches-code file h l = replied-fits h (omega (arith, length-stitches (stitchPoints (decode file)))) l
