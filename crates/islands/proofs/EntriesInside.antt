@@ -10,13 +10,12 @@ use lib.ListN.{length, getD}
 use borrow.Author.Tests.{eqb-true, ltb-true, eq-eqb, ne-eqb}
 use Rattle.words.specs.Bytes.{allOnes}
 use Rattle.words.specs.Rows.{every}
-use Rattle.words.proofs.TableRows.{Tested, every-at, testing, tested-all, tested-none, tested-not-no, tested-not-yes}
+use Rattle.words.proofs.TableRows.{Tested, every-at, testing, tested-all, tested-none, tested-not-no, tested-not-yes, or-cases}
 use Rattle.ship.specs.declared.Blocks.{Blocks}
 use Rattle.ship.specs.Model.{Deck, neighboursOf, cornersOf}
 use Rattle.ship.specs.Decode.{deckAt}
 use Rattle.ship.proofs.ModelFacts.{polygons-length}
 use Rattle.islands.specs.Islands.{listOf, names, polygonCount, listInside, polygonInside, question19}
-use Rattle.islands.proofs.Through.{or-cases}
 use Rattle.islands.proofs.ListLoops.{names-entry}
 
 -- ---- an entry

@@ -6,8 +6,7 @@ use mathlib.Core.Bool.{Bool, true, false, not}
 use mathlib.Core.List.{List}
 use lib.ListN.{length}
 use borrow.Author.Tests.{lt-ltb, le-ltb, ltb-true}
-use Rattle.words.specs.Bytes.{bytes4}
-use Rattle.words.proofs.Writing.{length-bytes4, length-joined}
+use Rattle.words.proofs.Numbers.{length-words}
 use Rattle.words.proofs.TableRows.{length-rows}
 use Rattle.answers.specs.declared.Check.{Check}
 use Rattle.answers.specs.declared.Check.the-variants.{Passed}
@@ -75,7 +74,7 @@ labels-least file deck passed =
 
 -- ---- the reply: 4 bytes a label, and a label a polygon
 pub islands-long : (file : List ℕ) (deck : ℕ) → length (islandsReply file deck .bytes) ≡ numberSize * islandsReply file deck .count
-islands-long file deck = length-joined bytes4 numberSize length-bytes4 (deckLabels (deckOf (decode file) deck))
+islands-long file deck = length-words (deckLabels (deckOf (decode file) deck))
 
 labels-many : (deck : Deck) → length (deckLabels deck) ≡ polygonCount deck
 unfolding deckLabels labelsBy

@@ -3,28 +3,16 @@ use Prim.Native.Nat.{ℕ, zero, suc, _+_, _<_, _≤_}
 use native.Mathlib.Omega.{arith}
 use native.Mathlib.Decide.{ℕ-discrete, decLt}
 use mathlib.Core.Path.{_≡_, refl, sym, ap, subst, _∙_}
-use mathlib.Core.Bool.{Bool, true, false, _&&_, _||_, cond}
+use mathlib.Core.Bool.{Bool, true, false, _&&_, cond}
 use mathlib.Core.Logic.{_⊎_, inl, inr, ⊎-elim}
 use lib.Dec.{T, eqb}
 use lib.Ieee.Bits.{is-true}
 use borrow.Author.Tests.{eqb-true, eq-eqb}
-use Rattle.words.proofs.TableRows.{both, length-rows, getD-rows}
+use Rattle.words.proofs.TableRows.{both, or-left, or-right, or-cases, length-rows, getD-rows}
 use Rattle.words.proofs.Collecting.{holds}
 use Rattle.islands.specs.Reach.{Reaches, here, step, IsLabel, Labels}
 use Rattle.islands.specs.Labels.{first, through, labelBy, labelsBy}
 use Rattle.islands.proofs.Reaching.{reach-join}
-
--- ---- Bools
-pub or-left : (a b : Bool) → a ≡ true → (a || b) ≡ true
-or-left a b e = rw e
-
-pub or-right : (a b : Bool) → b ≡ true → (a || b) ≡ true
-or-right true b e = refl
-or-right false b e = e
-
-pub or-cases : (a b : Bool) → (a || b) ≡ true → (a ≡ true) ⊎ (b ≡ true)
-or-cases true b e = inl refl
-or-cases false b e = inr e
 
 -- ---- the first number that passes
 record First (p : ℕ → Bool) (i n at : ℕ) : Type 0 where

@@ -12,9 +12,9 @@ use Rattle.answers.specs.declared.Check.the-variants.{Passed}
 use Rattle.hits.specs.declared.Candidate.{Candidate}
 use Rattle.hits.specs.Candidates.{candidate}
 use Rattle.ship.specs.Layout.{decksIn}
-use Rattle.ship.specs.Packed.{packedOf, packedDeck, packedPolygon}
 use Rattle.ship.specs.Questions.{firstNo}
 use Rattle.ship.proofs.ModelFacts.{decks-length}
+use Rattle.ship.proofs.Packing.{packed-deck, packed-polygon}
 use Rattle.survey.specs.declared.Seat.{Seat}
 use Rattle.survey.specs.Search.{candidates}
 use Rattle.survey.specs.Survey.{IsCandidate, Earlier}
@@ -41,13 +41,6 @@ rising-at R [] d j k r h m = absurd (omega arith)
 rising-at R (x ∷ l) d j zero r h m = absurd (omega arith)
 rising-at R (x ∷ l) d zero (suc k) r h m = r .0 (getD l k d) (in-at l d k (omega arith))
 rising-at R (x ∷ l) d (suc j) (suc k) r h m = rising-at R l d j k (r .1) (omega arith) (omega arith)
-
--- ---- a packed number
-pub packed-deck : (d k : ℕ) → k < 2 ^ 24 → packedDeck (packedOf d k) ≡ d
-packed-deck d k h = omega arith
-
-pub packed-polygon : (d k : ℕ) → k < 2 ^ 24 → packedPolygon (packedOf d k) ≡ k
-packed-polygon d k h = omega arith
 
 -- ---- number j of a step
 module _ (file blocked : List ℕ) (seat : Seat) (s j : ℕ) (below : j < length (stepNumbers file blocked seat s)) where

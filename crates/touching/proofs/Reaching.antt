@@ -3,25 +3,17 @@ use Prim.Native.Nat.{ℕ, zero, suc, _≤_, _<_}
 use native.Mathlib.Omega.{arith}
 use mathlib.Core.Path.{_≡_, refl, subst}
 use mathlib.Core.Logic.{_⊎_, inl, inr, ⊎-elim}
-use mathlib.Core.Bool.{Bool, true, false, not, _&&_, _||_}
+use mathlib.Core.Bool.{Bool, true, not, _&&_}
 use mathlib.Core.List.{List, [], _∷_}
 use lib.Dec.{T, eqb}
 use lib.ListN.{length, getD}
 use lib.Ieee.Bits.{is-true}
 use borrow.Author.Tests.{eqb-true, eq-eqb}
 use Rattle.words.specs.Rows.{some, has, howMany}
-use Rattle.words.proofs.TableRows.{both, some-at, some-which}
+use Rattle.words.proofs.TableRows.{both, or-right, or-cases, some-at, some-which}
 use Rattle.words.proofs.Collecting.{holds, length-collect}
 use Rattle.touching.specs.Reach.{Chain, here, on, within, drops, merged, MergedSound}
 use Rattle.touching.proofs.Counting.{count-more, count-bound, count-one}
-
-either : (a b : Bool) → (a || b) ≡ true → (a ≡ true) ⊎ (b ≡ true)
-either true b h = inl h
-either false b h = inr h
-
-or-right : (a b : Bool) → b ≡ true → (a || b) ≡ true
-or-right true b h = refl
-or-right false b h = h
 
 -- ---- the numbers of a list
 pub has-at : (l : List ℕ) (k : ℕ) → k < length l → T (has l (getD l k 0))
@@ -58,7 +50,7 @@ module _ (touches : ℕ → ℕ → Bool) (l : List ℕ) where
 
   pub within-last : (t a b : ℕ) → within touches l (suc t) a b ≡ true → (within touches l t a b ≡ true) ⊎ Last t a b
   unfolding within
-  within-last t a b h = ⊎-elim (λ p. inl p) (λ p. inr (last p)) (either (within touches l t a b) _ h)
+  within-last t a b h = ⊎-elim (λ p. inl p) (λ p. inr (last p)) (or-cases (within touches l t a b) _ h)
     where
       last : some (λ k. within touches l t a (getD l k 0) && touches (getD l k 0) b) 0 (length l) ≡ true → Last t a b
       last p =

@@ -1,4 +1,4 @@
--- Document 01, 'Edges of the behaviour': the row of removal, and a file of two decks written anew, as definitions evaluated.
+-- A list at t = 255, and a file of two decks written anew, as definitions evaluated.
 use Prim.Native.Nat.{ℕ}
 use mathlib.Core.Path.{_≡_, refl}
 use mathlib.Core.List.{List, [], _∷_}
@@ -13,15 +13,6 @@ use Rattle.ship.specs.Questions.{endToEnd, question1, question2, question3, que
 use Rattle.unstitched.specs.declared.Stitches.the-variants.{All, ToLayer}
 use Rattle.unstitched.specs.Removal.{keeps, writtenAs, keptOf}
 use Rattle.unstitched.specs.NewFile.{pairs, keptFrom, newVertex, newBlocks, newLengths, newTable, allBlocks, newFile}
-
--- 'deck 1 list [all ones, 01000002, 00000005] after removal [all ones, 2], after a second [all ones]'
-once : keptOf All 1 (allOnes ∷ 0x01000002 ∷ 0x00000005 ∷ []) ≡ allOnes ∷ 2 ∷ []
-unfolding keptOf keeps writtenAs
-once = refl
-
-twice : keptOf All 1 (allOnes ∷ 2 ∷ []) ≡ allOnes ∷ []
-unfolding keptOf keeps writtenAs
-twice = refl
 
 -- 'All ones stays in every deck, also for t = 255'
 outside-stays : keptOf (ToLayer 255) 1 (allOnes ∷ 0xFF000003 ∷ 0x01000002 ∷ []) ≡ allOnes ∷ 0x01000002 ∷ []

@@ -4,9 +4,9 @@ use native.Mathlib.Omega.{arith}
 use mathlib.Core.Path.{_≡_, refl}
 use mathlib.Core.List.{List, _++_}
 use lib.ListN.{length, getD, length-append}
-use Rattle.words.specs.Bytes.{u32At, bytes4, wordsOf, slice}
+use Rattle.words.specs.Bytes.{u32At, wordsOf, slice}
 use Rattle.words.specs.Rows.{collectAll}
-use Rattle.words.proofs.Writing.{length-bytes4, length-joined}
+use Rattle.words.proofs.Numbers.{length-words}
 use Rattle.ship.specs.declared.Blocks.{Blocks}
 use Rattle.ship.specs.declared.Extent.{Extent}
 use Rattle.ship.specs.Layout.{numberSize, pairSize, deckOffsetSize, vertexSize, listInVertex, firstList, vertexPosition, neighbourExtent, neighbourEntry, polygonExtent, cornerEntry, heightPosition}
@@ -64,7 +64,7 @@ module _ (which : Stitches) (s : List ℕ) (d : ℕ) (b : Blocks) where
           arith,
           length-append (slice s (vertexPosition b i) listInVertex) (wordsOf (newExtent which s d b i)),
           slice-length s (vertexPosition b i) listInVertex (omega (arith, l .inside .v-inside)),
-          length-joined bytes4 4 length-bytes4 (newExtent which s d b i),
+          length-words (newExtent which s d b i),
         )
 
     pub v-length : length (newV which s d b) ≡ deckOffsetSize + vertexSize * b .vertices
@@ -77,7 +77,7 @@ module _ (which : Stitches) (s : List ℕ) (d : ℕ) (b : Blocks) where
         )
 
     pub n-length : length (newN which s d b) ≡ numberSize * length keptEntries
-    n-length = length-joined bytes4 4 length-bytes4 keptEntries
+    n-length = length-words keptEntries
 
     pub rest-inside : b .p + restSize b ≤ length s
     rest-inside = omega (arith, l .inside .h-inside)

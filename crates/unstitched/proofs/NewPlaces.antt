@@ -7,10 +7,10 @@ use mathlib.Core.List.{List, _++_}
 use lib.Dec.{eqb, leb}
 use lib.ListN.{length, getD, length-append}
 use borrow.Author.Tests.{le-leb, eq-eqb}
-use Rattle.words.specs.Bytes.{u32At, bytes4, wordsOf, slice}
+use Rattle.words.specs.Bytes.{u32At, wordsOf, slice}
 use Rattle.words.specs.Rows.{collectAll, sumOf, sumAll}
 use Rattle.words.proofs.Collecting.{length-collect, sum-same}
-use Rattle.words.proofs.Writing.{length-bytes4, length-joined}
+use Rattle.words.proofs.Numbers.{length-words}
 use Rattle.answers.specs.declared.Check.the-variants.{Passed}
 use Rattle.ship.specs.declared.Blocks.{Blocks}
 use Rattle.ship.specs.declared.DeckRow.{DeckRow}
@@ -102,7 +102,7 @@ module _ (which : Stitches) (s : List ℕ) where
   all-lengths = rows-length lengthsIn blocksPerDeck (decksIn s) (λ d h. lengths-length d)
 
   pairs-words : (at : ℕ) (ls : List ℕ) → length (wordsOf (pairs at ls)) ≡ pairSize * length ls
-  pairs-words at ls = omega (arith, length-joined bytes4 4 length-bytes4 (pairs at ls), pairs-length at ls)
+  pairs-words at ls = omega (arith, length-words (pairs at ls), pairs-length at ls)
 
   table-length : length (newTable which s) ≡ deckRowSize * decksIn s
   unfolding newTable

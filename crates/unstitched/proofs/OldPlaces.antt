@@ -13,8 +13,9 @@ use Rattle.ship.specs.declared.Blocks.{Blocks}
 use Rattle.ship.specs.declared.DeckRow.{DeckRow}
 use Rattle.ship.specs.declared.Extent.{Extent}
 use Rattle.ship.specs.Layout.{numberSize, headerSize, pairSize, blocksPerDeck, deckOffsetSize, vertexSize, decksIn, blocksPosition, extentAt, blockAt, rowPosition, deckRow, blocksAt, neighbourExtent, BlocksInside}
-use Rattle.ship.specs.Questions.{endToEnd, question6, question7, question12, firstNo, DeckOfPassed}
-use Rattle.ship.proofs.Passed.{header-all-yes, deck-all-yes, passed-header, passed-deck}
+use Rattle.ship.specs.Questions.{endToEnd, question7, question12, firstNo, DeckOfPassed}
+use Rattle.ship.proofs.Passed.{deck-all-yes, passed-header, passed-deck}
+use Rattle.ship.proofs.Inside.{blocks-chain}
 use Rattle.ship.proofs.Facts.{blocks-inside}
 use Rattle.unstitched.proofs.Chains.{startOf, start-here, start-end, start-first, start-next}
 
@@ -23,15 +24,11 @@ abbrev pub blockStart : List ℕ → ℕ → ℕ
 blockStart s j = startOf (blockAt s) (length s) (blocksPerDeck * decksIn s) j
 
 module _ (s : List ℕ) (passed : firstNo s ≡ Passed) where
-  blocks-chain : endToEnd (blockAt s) (length s) (blocksPosition s) 0 (blocksPerDeck * decksIn s) ≡ true
-  unfolding question6
-  blocks-chain = header-all-yes s (passed-header s passed) .yes6
-
   pub block-first : blockStart s 0 ≡ blocksPosition s
-  block-first = start-first (blockAt s) (length s) (blocksPosition s) (blocksPerDeck * decksIn s) blocks-chain
+  block-first = start-first (blockAt s) (length s) (blocksPosition s) (blocksPerDeck * decksIn s) (blocks-chain s (passed-header s passed))
 
   pub block-next : (j : ℕ) → j < blocksPerDeck * decksIn s → blockStart s (j + 1) ≡ blockStart s j + blockAt s j .count
-  block-next = start-next (blockAt s) (length s) (blocksPosition s) (blocksPerDeck * decksIn s) blocks-chain
+  block-next = start-next (blockAt s) (length s) (blocksPosition s) (blocksPerDeck * decksIn s) (blocks-chain s (passed-header s passed))
 
 pub block-here : (s : List ℕ) (j : ℕ) → j < blocksPerDeck * decksIn s → blockStart s j ≡ blockAt s j .start
 block-here s j h = start-here (blockAt s) (length s) (blocksPerDeck * decksIn s) j h

@@ -43,6 +43,7 @@ same-length-3 c = search (found-numbers, needs)
 same-length-4 : tie.Need-same-length-4
 same-length-4 c = search (found-numbers, needs)
 
+-- by its paths: the search breaks off
 returns-2 : tie.Need-returns-2
 returns-2 c =
     let put = c .before .before .before .before in
