@@ -1,37 +1,32 @@
 -- A candidate's entry, and the loop over the candidates of a step that writes them: what it says at its start, in a turn and at its end.
-use Prim.Native.Nat.{ℕ, _+_, _*_, _^_, _≤_, _<_}
-use mathlib.Core.Path.{_≡_, refl, ap, _∙_, subst}
+use Prim.Native.Nat.{ℕ, _+_, _*_, _≤_}
+use mathlib.Core.Path.{_≡_, refl, _∙_}
 use mathlib.Core.Bool.{Bool, true, false, not}
 use mathlib.Core.List.{List, [], _∷_}
 use native.Mathlib.Omega.{arith}
-use mir.Syntax.{w64}
-use mir.Val.{Fits}
 use lib.IntN.{ℤ}
-use lib.ListN.{length, drop, length-drop}
+use lib.ListN.{length}
 use lib.Ieee.{binary32, toBits}
 use Rattle.geometry.specs.declared.Vec2.{Vec2}
 use Rattle.geometry.specs.Bounds.{PointWithin}
 use Rattle.geometry.proofs.Bounds.{not-nan}
 use Rattle.words.specs.Bytes.{bytes4, joined, wordsOf, splice}
-use Rattle.words.proofs.Writing.{Rest, rest-all, rest-more-front, rest-front, length-joined, next-of}
+use Rattle.words.proofs.Writing.{Rest, rest-all, rest-more-front, rest-front, length-joined}
 use Rattle.answers.specs.declared.Answer.the-variants.{Refused, Wrote}
-use Rattle.answers.specs.declared.Check.the-variants.{Passed}
 use Rattle.answers.specs.Questions.{question20}
 use Rattle.answers.specs.Replies.{Replied}
 use Rattle.answers.proofs.Asking.{said-yes, q20-fits}
 use Rattle.answers.proofs.Replying.{replied-short, replied-written, room-short, room-fits}
 use Rattle.hits.specs.declared.Candidate.{Candidate}
-use Rattle.hits.specs.Candidates.{candidate}
 use Rattle.ship.specs.Packed.{packedOf}
-use Rattle.ship.specs.Questions.{firstNo}
 use Rattle.survey.specs.declared.Seat.{Seat}
 use Rattle.survey.specs.View.{Shown}
 use Rattle.survey.specs.Search.{candidates}
 use Rattle.walking.specs.declared.Next.{Next}
 use Rattle.walking.specs.declared.Next.the-variants.{Reached, Ended}
-use Rattle.walking.specs.Sees.{shownBy, seenBy, CandidateIn, CandidateWithin}
-use Rattle.walking.specs.Walk.{candidatesAfter, leftOf, NextIn, WalkedStep, WalkedAfter}
-use Rattle.walking.proofs.ShownLaws.{candidate-within, few-candidates}
+use Rattle.walking.specs.Sees.{shownBy, seenBy}
+use Rattle.walking.specs.Walk.{WalkedStep, WalkedAfter}
+use Rattle.walking.proofs.Passing.{nowhere, Passing, passing-all, passing-ended, passing-below, passing-here, passing-within, passing-more, passing}
 use Rattle.calls.specs.Closest.{entrySize, entryBytes, candidateBytes, StepFits, StepPut, StepCount, stepReply, PutReady}
 
 -- ---- `put_candidate`
@@ -50,89 +45,44 @@ length-candidate w c = refl
 pub length-candidates : (w : Shown) (l : List Candidate) → length (joined (candidateBytes w) l) ≡ entrySize * length l
 length-candidates w = length-joined (candidateBytes w) entrySize (length-candidate w)
 
--- ---- `put_step`: the first n candidates stand in the output, and the others are left
-abbrev nowhere : Candidate
-nowhere = candidate 0 0 0 0
-
+-- ---- `put_step`: the candidates passed stand in the output
 pub record Putting (file blocked : List ℕ) (seat : Seat) (s : ℕ) (out₀ out : List ℕ) (n : ℕ) (next : Next) : Type 0 where
-  pub passed : firstNo file ≡ Passed
-  pub place-within : PointWithin 1000000 (seat .place)
+  pub passes : Passing file blocked seat s n next
   pub room : StepFits (seenBy file blocked seat) s out₀
-  pub next-in : NextIn file next
   pub rest : Rest (candidateBytes (shownBy file (seat .place))) entrySize nowhere out₀ 0 (candidates (seenBy file blocked seat) s) out n
-  pub left-is : drop n (candidates (seenBy file blocked seat) s) ≡ leftOf (seenBy file blocked seat) next
 
 pub putting-all : {file blocked : List ℕ} {table : List ℤ} {seat : Seat} {s : ℕ} {out : List ℕ} {next : Next} → PutReady file blocked table seat s out
     → WalkedStep file (seenBy file blocked seat) s next → Putting file blocked seat s out out 0 next
-putting-all ready w =
-    record {
-      passed = ready .search-ready .file-ready .file-passed;
-      place-within = ready .search-ready .place-within;
-      room = ready .fits;
-      next-in = w .within;
-      rest = rest-all;
-      left-is = w .left-is;
-    }
+putting-all ready w = record { passes = passing-all (ready .search-ready) w; room = ready .fits; rest = rest-all }
 
 module _ {file blocked : List ℕ} {seat : Seat} {s : ℕ} {out₀ out : List ℕ} {n : ℕ} {next : Next} (h : Putting file blocked seat s out₀ out n next) where
   pub putting-long : length out ≡ length out₀
   putting-long = h .rest .long
 
   pub putting-ended : {m : ℕ} → next ≡ Ended m → StepPut (seenBy file blocked seat) s out₀ out
-  putting-ended {m} e =
-      let none : drop n (candidates (seenBy file blocked seat) s) ≡ [] = rw e at (h .left-is) in
-      let long = length-drop n (candidates (seenBy file blocked seat) s) in
-      rest-front (h .rest) (length-candidate (shownBy file (seat .place))) (omega (arith, ap length none))
+  putting-ended e = rest-front (h .rest) (length-candidate (shownBy file (seat .place))) (passing-ended (h .passes) e)
 
   module _ {c : Candidate} {m : ℕ} (e : next ≡ Reached c m) where
-    pub putting-in : CandidateIn file c
-    putting-in = subst (NextIn file) e (h .next-in)
-
-    reached : drop n (candidates (seenBy file blocked seat) s) ≡ c ∷ candidatesAfter (seenBy file blocked seat) c
-    reached = rw e at (h .left-is)
-
-    below : n < length (candidates (seenBy file blocked seat) s)
-    below = next-of (candidates (seenBy file blocked seat) s) nowhere n reached .below
-
-    within : CandidateWithin c (shownBy file (seat .place) .place c) (shownBy file (seat .place) .height c)
-    within = candidate-within (h .passed) putting-in (h .place-within)
-
-    pub putting-deck : c .deck < 256
-    putting-deck = within .deck
-
-    pub putting-polygon : c .polygon < 2 ^ 24
-    putting-polygon = omega (arith, within .polygon)
-
     pub putting-room : entrySize * n + entrySize ≤ length out
-    putting-room = omega (arith, below, h .room, h .rest .long)
-
-    pub putting-fits : Fits w64 (n + 1)
-    putting-fits = record { fits = omega (arith, below, few-candidates file blocked seat s (h .passed)) }
+    putting-room = omega (arith, passing-below (h .passes) e, h .room, h .rest .long)
 
     module _ {place : Vec2} (at : place ≡ shownBy file (seat .place) .place c) where
       pub putting-place : PointWithin 3015000 place
-      putting-place = rw at (within .place-within)
+      putting-place = rw at (passing-within (h .passes) e .place-within)
 
-      module _ {next′ : Next} (w : WalkedAfter file (seenBy file blocked seat) c next′) where
-        pub putting-less : length (leftOf (seenBy file blocked seat) next′) < length (leftOf (seenBy file blocked seat) next)
-        putting-less = rw (e, ← w .left-is) (omega arith)
+      pub putting-more : {next′ : Next} → WalkedAfter file (seenBy file blocked seat) c next′ → {polygon : ℕ} {out′ : List ℕ} → polygon ≡ packedOf (c .deck) (c .polygon)
+          → out′ ≡ splice out (entrySize * n) (entryBytes polygon place) → Putting file blocked seat s out₀ out′ (n + 1) next′
+      unfolding candidateBytes
+      putting-more w packed put =
+          record {
+            passes = passing-more (h .passes) e w;
+            room = h .room;
+            rest =
+                rest-more-front (h .rest) (length-candidate (shownBy file (seat .place))) (passing-below (h .passes) e) (h .room) (passing-here (h .passes) e) refl
+                (put ∙ rw (packed, at));
+          }
 
-        pub putting-more : {polygon : ℕ} {out′ : List ℕ} → polygon ≡ packedOf (c .deck) (c .polygon) → out′ ≡ splice out (entrySize * n) (entryBytes polygon place)
-            → Putting file blocked seat s out₀ out′ (n + 1) next′
-        unfolding candidateBytes
-        putting-more packed put =
-            let o = next-of (candidates (seenBy file blocked seat) s) nowhere n reached in
-            record {
-              passed = h .passed;
-              place-within = h .place-within;
-              room = h .room;
-              next-in = w .within;
-              rest = rest-more-front (h .rest) (length-candidate (shownBy file (seat .place))) below (h .room) (o .here) refl (put ∙ rw (packed, at));
-              left-is = o .after ∙ w .left-is;
-            }
-
-pub ruleset putting =
-    (putting-all, putting-long, putting-ended, putting-in, putting-deck, putting-polygon, putting-room, putting-fits, putting-place, putting-less, putting-more)
+pub ruleset putting = (passing, putting-all, putting-long, putting-ended, putting-room, putting-place, putting-more)
 
 -- ---- `put_counted`
 module _ (file blocked : List ℕ) (seat : Seat) (s : ℕ) {count : ℕ} (counted : StepCount (seenBy file blocked seat) s count) (out : List ℕ) {fits : Bool}

@@ -5,7 +5,7 @@ use mathlib.Core.Path.{_≡_, refl, sym, ap, _∙_}
 use mathlib.Core.Bool.{Bool, true, false, not}
 use mathlib.Core.List.{List, [], map}
 use lib.IntN.{ℤ}
-use lib.ListN.{length, length-map}
+use lib.ListN.{length}
 use Rattle.geometry.specs.declared.Vec2.{Vec2}
 use Rattle.ring.specs.Table.{directions}
 use Rattle.words.specs.Rows.{collect}
@@ -27,6 +27,7 @@ use Rattle.touching.specs.Touching.{touches}
 use Rattle.touching.specs.Reach.{merged}
 use Rattle.touching.proofs.Reaching.{merged-sound}
 use Rattle.numbering.specs.Numbers.{packedCandidate, stepNumbers, stepMerged}
+use Rattle.numbering.proofs.NumberLoop.{numbers-length}
 use Rattle.candidates.specs.Candidates.{candidateCheck, givesNothing, foundPolygons, polygonTotal, CandidatesMerged}
 use Rattle.candidates.specs.Written.{NumbersWorked, ListFits, FoundReady, foundMerged}
 use Rattle.candidates.proofs.CandidateAsks.{file-passed, blocked-long, query-asked}
@@ -53,7 +54,7 @@ module _ {file : List ℕ} {p : Vec2} {deck : ℕ} {blocked work : List ℕ} (re
       unfolding stepNumbers
       found-fits t =
           let n : found .candidates ≡ length (stepNumbers file blocked seat (found .step))
-          = points-count file p deck blocked is placed asked some ∙ sym (length-map (candidates (seenBy file blocked seat) (found .step)) packedCandidate) in
+          = points-count file p deck blocked is placed asked some ∙ sym (numbers-length file blocked seat (found .step)) in
           record {
             counted = record {
               ready = record { search-ready = found-ready t; step-below = step-below file p deck blocked is placed asked refl (ready .passed) some };

@@ -7,7 +7,7 @@ use mathlib.Core.Bool.{Bool, true, false, cond}
 use mathlib.Core.List.{List}
 use mir.Syntax.{w64}
 use mir.Val.{Fits}
-use lib.ListN.{length, length-map}
+use lib.ListN.{length}
 use Rattle.words.specs.Rows.{sumOf, sumAll}
 use Rattle.words.proofs.Collecting.{sum-yes, sum-none}
 use Rattle.hits.specs.Candidates.{candidate}
@@ -20,11 +20,12 @@ use Rattle.ship.proofs.Facts.{sound}
 use Rattle.ship.proofs.ModelFacts.{deck-of, decks-length, polygons-length}
 use Rattle.survey.specs.declared.Seat.{Seat}
 use Rattle.survey.specs.View.{View}
-use Rattle.survey.specs.Search.{turnGives, candidates}
+use Rattle.survey.specs.Search.{turnGives}
 use Rattle.survey.proofs.Steps.{count-is, how-many}
 use Rattle.touching.proofs.Counting.{count-bound}
 use Rattle.walking.specs.Sees.{shownFrom, seenBy}
-use Rattle.numbering.specs.Numbers.{packedCandidate, stepNumbers}
+use Rattle.numbering.specs.Numbers.{stepNumbers}
+use Rattle.numbering.proofs.NumberLoop.{numbers-length}
 use Rattle.candidates.specs.Candidates.{polygonTotal}
 
 abbrev onDeck : List ℕ → ℕ → ℕ
@@ -77,4 +78,4 @@ numbers-few file blocked seat s =
     let v = seenBy file blocked seat in
     let few : sumOf (v .opens) (λ d. length (turnGives (v .shown) s d)) 0 (v .decks) ≤ sumAll (onDeck file) 0 (v .decks) =
     sum-part (v .opens) (λ d. length (turnGives (v .shown) s d)) (onDeck file) (turn-few v s) 0 (v .decks) in
-    rw (← decks-length file) (omega (arith, few, how-many v s, length-map (candidates v s) packedCandidate))
+    rw (← decks-length file) (omega (arith, few, how-many v s, numbers-length file blocked seat s))

@@ -3,14 +3,13 @@ use Prim.Native.Nat.{ℕ, zero, suc, _^_, _<_}
 use native.Mathlib.Omega.{arith}
 use mathlib.Core.Path.{_≡_, refl, subst}
 use mathlib.Core.Logic.{inl, inr, ⊎-elim}
-use mathlib.Core.List.{List, [], _∷_, map}
+use mathlib.Core.List.{List, [], _∷_}
 use lib.Dec.{T}
-use lib.ListN.{length, getD, length-map}
+use lib.ListN.{length, getD, length-map, List·getD-map}
 use Rattle.words.specs.Rows.{has}
 use Rattle.words.proofs.Collecting.{In, Rising}
 use Rattle.answers.specs.declared.Check.the-variants.{Passed}
 use Rattle.hits.specs.declared.Candidate.{Candidate}
-use Rattle.hits.specs.Candidates.{candidate}
 use Rattle.ship.specs.Layout.{decksIn}
 use Rattle.ship.specs.Questions.{firstNo}
 use Rattle.ship.proofs.ModelFacts.{decks-length}
@@ -23,6 +22,7 @@ use Rattle.touching.specs.Touching.{PolygonThere}
 use Rattle.touching.proofs.Reaching.{has-which}
 use Rattle.walking.specs.Sees.{seenBy}
 use Rattle.walking.proofs.ShownLaws.{polygons-shown, polygons-few}
+use Rattle.walking.proofs.Passing.{nowhere}
 use Rattle.numbering.specs.Numbers.{packedCandidate, stepNumbers}
 
 -- ---- a list by its places
@@ -30,11 +30,6 @@ in-at : {A : Type 0} (l : List A) (d : A) (k : ℕ) → k < length l → In (get
 in-at [] d k h = absurd (omega arith)
 in-at (x ∷ l) d zero h = inl refl
 in-at (x ∷ l) d (suc k) h = inr (in-at l d k (omega arith))
-
-map-at : {A : Type 0} (f : A → ℕ) (l : List A) (d : A) (k : ℕ) → k < length l → getD (map f l) k 0 ≡ f (getD l k d)
-map-at f [] d k h = absurd (omega arith)
-map-at f (x ∷ l) d zero h = refl
-map-at f (x ∷ l) d (suc k) h = map-at f l d k (omega arith)
 
 rising-at : {A : Type 0} (R : A → A → Type 0) (l : List A) (d : A) (j k : ℕ) → Rising R l → j < k → k < length l → R (getD l j d) (getD l k d)
 rising-at R [] d j k r h m = absurd (omega arith)
@@ -45,7 +40,7 @@ rising-at R (x ∷ l) d (suc j) (suc k) r h m = rising-at R l d j k (r .1) (omeg
 -- ---- number j of a step
 module _ (file blocked : List ℕ) (seat : Seat) (s j : ℕ) (below : j < length (stepNumbers file blocked seat s)) where
   abbrev pub candidateAt : Candidate
-  candidateAt = getD (candidates (seenBy file blocked seat) s) j (candidate 0 0 0 0)
+  candidateAt = getD (candidates (seenBy file blocked seat) s) j nowhere
 
   below-candidates : j < length (candidates (seenBy file blocked seat) s)
   unfolding stepNumbers
@@ -53,10 +48,10 @@ module _ (file blocked : List ℕ) (seat : Seat) (s j : ℕ) (below : j < length
 
   pub number-is : getD (stepNumbers file blocked seat s) j 0 ≡ packedCandidate candidateAt
   unfolding stepNumbers
-  number-is = map-at packedCandidate (candidates (seenBy file blocked seat) s) (candidate 0 0 0 0) j below-candidates
+  number-is = List·getD-map packedCandidate (candidates (seenBy file blocked seat) s) j nowhere
 
   pub is-candidate : IsCandidate (seenBy file blocked seat) s candidateAt
-  is-candidate = of-candidates (seenBy file blocked seat) s candidateAt (in-at (candidates (seenBy file blocked seat) s) (candidate 0 0 0 0) j below-candidates)
+  is-candidate = of-candidates (seenBy file blocked seat) s candidateAt (in-at (candidates (seenBy file blocked seat) s) nowhere j below-candidates)
 
   module _ (passed : firstNo file ≡ Passed) where
     pub candidate-polygon : candidateAt .polygon < 2 ^ 24
@@ -86,4 +81,4 @@ numbers-rise file blocked seat s passed j k h m =
     let p = candidate-polygon file blocked seat s j l passed in
     rw (number-is file blocked seat s j l, number-is file blocked seat s k m)
     (⊎-elim (λ e. omega arith) (λ e. omega (arith, e .0, e .1))
-    (rising-at (Earlier v) (candidates v s) (candidate 0 0 0 0) j k (candidates-rise v s) h (below-candidates file blocked seat s k m)))
+    (rising-at (Earlier v) (candidates v s) nowhere j k (candidates-rise v s) h (below-candidates file blocked seat s k m)))

@@ -1,2 +1,3 @@
 pub mod ShownLaws
 pub mod Walks
+pub mod Passing
