@@ -34,6 +34,7 @@ ISLANDS = ("layers.rs", "bake_islands_detection")
 RECORD = ("record.rs", "record")
 HIT = ("record.rs", "hit")
 MESH = ("by_rust.rs", "mesh_of")
+ANSWER = ("by_rust.rs", "answer")
 
 
 # The three functions that walk a ring, and the calls that use them.
@@ -86,6 +87,11 @@ def in_found(name, wrong):
     return (name, [after(CLOSEST, found, text)])
 
 
+def in_named(name, place, on="ON"):
+    """Where a blocked deck is named."""
+    return ("a blocked deck searched where it is named (%s)" % name, [before(place, "names_blocked(", "!(%s) &&" % on)])
+
+
 SEARCHES = [
     *in_rings("a ring without its last sample", "sample * step", "(sample * step).saturating_sub(1)"),
     *in_rings("a sample multiplied right to left", "vec2(x, y) * delta * step as f32", "vec2(x, y) * (delta * step as f32)"),
@@ -102,16 +108,9 @@ SEARCHES = [
         "a step stopped at the first deck that hits (candidate_polygons)",
         [before(CANDIDATES, "layer.push_point_locations(", "if ON && !found.is_empty() { continue; }")],
     ),
-    (
-        "a blocked deck left out though it is named (closest_points)",
-        [
-            after(
-                CLOSEST,
-                "if let Some(layer_index) = point.layer {",
-                "if ON && blocked_layers.contains(&layer_index) { return vec![]; }",
-            )
-        ],
-    ),
+    in_named("run", RECORD),
+    in_named("closest_points", ANSWER, "ON && matches!(call, Call::ClosestPoints(_))"),
+    in_named("closest_point", ANSWER, "ON && matches!(call, Call::ClosestPoint(_))"),
     (
         "a blocked deck searched where it is named (candidate_polygons)",
         [before(CANDIDATES, "blocked_layers.contains(&layer_index)", "!(ON && point.layer.is_some()) &&")],

@@ -16,7 +16,8 @@
  *   of stack.
  *
  * file     a ship file
- * blocked  the decks left out of a search: SEATS_BLOCKED_SIZE bytes, deck d is bit d % 8 of byte d / 8, bit 0 the lowest
+ * blocked  the decks left out of every search, also where one is named: SEATS_BLOCKED_SIZE bytes, deck d is bit d % 8 of byte
+ *          d / 8, bit 0 the lowest
  * deck     a deck's number, or SEATS_ANY_DECK where none is named
  * polygon  a packed polygon, deck * 2^24 + its number in the deck, or SEATS_NO_POLYGON
  */

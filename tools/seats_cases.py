@@ -5,8 +5,8 @@ write: writes crates/seats_cases/stdin, the cases, and stdout, the answers.
 check: exits with 1 where one of the two files differs from what is computed here.
 list: prints the cases, in the order of their answers in stdout.
 
-Records, entries and heights are worked out from document 01, sections 3 to 7, over exact fractions that are rounded once an
-operation (tools/geometry_cases.py). The number of a refusal is what its case is built to fail, and stands beside the case: nothing
+Records, entries and heights are worked out from document 01, sections 3 to 7, and document 02, point 1, over exact fractions that
+are rounded once an operation (tools/geometry_cases.py). The number of a refusal is what its case is built to fail, and stands beside the case: nothing
 here asks a question. Nothing of the Rattle code takes part.
 
 A place that is an argument is never a NaN, since no float can be made of a NaN's pattern there; NaNs stand in seats, which are
@@ -75,7 +75,8 @@ def passes(polygon, p):
 
 
 def open_decks(ship, named, closed):
-    return [named] if named != ALL_ONES else [d for d in range(len(ship.decks)) if d not in closed]
+    """Document 02, point 1: the decks not in the blocked set and, where a deck is named, that one."""
+    return [d for d in range(len(ship.decks)) if d not in closed and named in (ALL_ONES, d)]
 
 
 def turn(ship, p, s, d):
@@ -232,7 +233,7 @@ def deck_count_cases():
     tall = dict(POINT, heights=[7.0])
     most = Ship(*[POINT] * 255 + [tall])
     yield run("L 256", most, [at(9.0, 9.0), at(9.0, 9.0, wish=1.0), at(9.0, 9.0, 255)])
-    yield run("L 256, all blocked but 200", most, [at(9.0, 9.0)], closed=[d for d in range(256) if d != 200])
+    yield run("L 256, all blocked but 200", most, [at(9.0, 9.0), at(9.0, 9.0, 255), at(9.0, 9.0, 200)], closed=[d for d in range(256) if d != 200])
     yield run("L 257", Ship(*[POINT] * 257).file, [at(9.0, 9.0)], no=2)
     yield run("L 0", put(EXAMPLE.file, L_PLACE, 0), ONE, no=2)
     yield height_call("L 256, polygon 16,777,214 of the last deck", most, 0.0, 0.0, ALL_ONES - 1, no=18)
@@ -338,10 +339,17 @@ def open_deck_cases():
     yield run("every deck blocked, and all that are not there", same, ONE, closed=range(256))
     yield run("all blocked that are not there", same, ONE, closed=range(3, 256))
     yield run("a named deck that is blocked", same, [at(1.0, 1.0, 1), at(5.0, 5.0, 1), at(1.0, 1.0)], closed=[0, 1, 2])
+    yield run("deck 1 named and blocked, the others free", same, [at(1.0, 1.0, 1), at(1.0, 1.0), at(5.0, 5.0, 1), at(1.0, 1.0, 0)], closed=[1])
+    yield run("deck 1 named and blocked, a wish", same, [at(1.0, 1.0, 1, wish=2.0), at(1.0, 1.0, wish=2.0)], closed=[1])
+    yield run("deck 1 named, the others blocked", same, [at(1.0, 1.0, 1), at(-0.5, 2.0, 1)], closed=[0, 2])
+    for closed in ([3], range(256)):
+        yield run("a deck named that is not there, %d blocked" % len(closed), same, [at(1.0, 1.0, 3)], no=17, closed=closed)
     yield run("a named deck alone, the others open", same, [at(1.0, 1.0, 2), at(1.0, 1.0, 0), at(-0.5, 2.0, 1)])
     nine = Ship(*[level(float(d)) for d in range(9)])
     yield run("decks 7 and 8, bits of two bytes", nine, [at(1.0, 1.0)], closed=range(7))
     yield run("deck 8 blocked of 9", nine, [at(1.0, 1.0, wish=8.0)], closed=[8])
+    yield run("deck 8 blocked of 9, decks 0 and 8 named", nine, [at(1.0, 1.0, 0), at(1.0, 1.0, 8)], closed=[8])
+    yield run("deck 0 blocked of 9, decks 0 and 8 named", nine, [at(1.0, 1.0, 0), at(1.0, 1.0, 8)], closed=[0])
 
 
 def wish_cases():
@@ -448,6 +456,8 @@ def points_cases():
     yield points("two entries, output of 29 bytes", two, 1.0, 1.0, room=29)
     yield points("a named deck", two, 1.0, 1.0, deck=1)
     yield points("a named deck that is blocked", two, 1.0, 1.0, deck=1, closed=[0, 1])
+    yield points("a named deck that is blocked, the other free, output of 12 bytes", two, 1.0, 1.0, deck=1, closed=[1], room=12)
+    yield points("a named deck, the other blocked", two, 1.0, 1.0, deck=1, closed=[0])
     yield points("deck 0 blocked", two, 1.0, 1.0, closed=[0])
     yield points("all blocked", two, 1.0, 1.0, closed=[0, 1], room=24)
     apart = Ship(level(1.0), level(5.0, offset=(-5.0, 0.0)), steps=3)
@@ -467,6 +477,8 @@ def point_cases():
     yield point("output of 12 bytes", two, 1.0, 1.0, room=12)
     yield point("output of 24 bytes", two, 1.0, 1.0, room=24)
     yield point("a named deck that is blocked", two, 1.0, 1.0, deck=2, closed=[1, 2])
+    yield point("a named deck that is blocked, the others free, output of 12 bytes", two, 1.0, 1.0, deck=2, closed=[2], room=12)
+    yield point("a named deck, the others blocked", two, 1.0, 1.0, deck=2, closed=[0, 1])
     yield point("deck 1 blocked", two, 1.0, 1.0, closed=[1])
 
 
@@ -484,6 +496,7 @@ def query_cases():
             yield call("y of %s" % x, EXAMPLE, 1.0, x, no=16, room=12)
         for named in (1, 256, ALL_ONES - 1):
             yield call("deck %d named" % named, EXAMPLE, 1.0, 1.0, deck=named, no=17, room=12)
+        yield call("deck 1 named and blocked, which is not there", EXAMPLE, 1.0, 1.0, deck=1, no=17, closed=[1], room=12)
         yield call("deck 0 named", EXAMPLE, 1.0, 1.0, deck=0)
         yield call("4 and 14", put(EXAMPLE.file, S_PLACE, 0), 1.0, 1.0, no=4, closed=b"")
         yield call("14 and 16", EXAMPLE, INFINITY, 1.0, no=14, closed=bytes(31))

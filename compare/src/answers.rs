@@ -6,10 +6,10 @@ use crate::ask::random_call;
 use crate::by_rust::mesh_of;
 use crate::calls::{Answer, Asked, Call, Query, Room};
 use crate::cases::{answer_lines, case_bytes, is_of_run};
-use crate::check::{expected, tell, Ship};
+use crate::check::{expected, left_out, tell, Ship};
 use crate::damage::damaged_call;
 use crate::differences::panics;
-use crate::met::Met;
+use crate::met::{Met, CALL_LEFT_OUT, SEAT_LEFT_OUT};
 use crate::outcomes::PROBES;
 use crate::questions::file_passes;
 use crate::random::Random;
@@ -26,7 +26,7 @@ const MOST_LENT: [usize; 2] = [32_768, 4_096];
 const FEW: u64 = 10;
 
 /// What no stored case has: ships that are too large, answers that are not the Rust's, and shapes, which are the generator's words.
-const NOT_STORED: [&str; 19] = [
+const NOT_STORED: [&str; 21] = [
     "grid",
     "fan",
     "rectangles",
@@ -34,6 +34,8 @@ const NOT_STORED: [&str; 19] = [
     "250 to 255 decks",
     "256 decks",
     "no height on a degenerate edge",
+    SEAT_LEFT_OUT,
+    CALL_LEFT_OUT,
     "refused 1",
     "refused 2",
     "refused 5",
@@ -88,7 +90,10 @@ fn is_the_rusts(ship: &mut Ship, plan: &ShipPlan, asked: &Asked, answer: &Answer
             rust.set_steps();
             sayable && refused
         }
-        Answer::Wrote(_) | Answer::Refused(20) => !ship.rust.as_ref().expect("the file passes").not_a_height.take(),
+        Answer::Wrote(_) | Answer::Refused(20) => {
+            let not_a_height = ship.rust.as_ref().expect("the file passes").not_a_height.take();
+            !not_a_height && left_out(asked) == 0
+        }
         _ => false,
     }
 }

@@ -43,6 +43,12 @@ pub fn blocked_layers(blocked: &[u8]) -> HashSet<u8> {
     (0..=255u8).filter(|&d| blocked[usize::from(d) / 8] >> (d % 8) & 1 == 1).collect()
 }
 
+/// Whether a blocked deck is named. The ring search of the Rust looks at it all the same and document 02, point 1, does not, so the
+/// Rust's answer is left out there (docs/DIFFERENCES.md).
+pub fn names_blocked(deck: u32, blocked: &HashSet<u8>) -> bool {
+    deck != ANY_DECK && blocked.contains(&(deck as u8))
+}
+
 /// A deck's number for the Rust, which has none above 255.
 pub fn coords(query: Query) -> Coords {
     let at = vec2(query.x, query.y);
@@ -72,6 +78,7 @@ impl RustShip {
         let blocked = if call.takes_blocked() { blocked_layers(blocked) } else { HashSet::new() };
         match call {
             Call::Run { seats } => seats.chunks(20).flat_map(|seat| bytes_of(&self.record(&words(seat), &blocked))).collect(),
+            Call::ClosestPoints(q) | Call::ClosestPoint(q) if names_blocked(q.deck, &blocked) => vec![],
             Call::ClosestPoints(q) => {
                 let found = self.mesh.get_closest_points_on_layers(coords(*q), blocked);
                 found.iter().flat_map(|c| bytes_of(&entry(c))).collect()

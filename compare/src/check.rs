@@ -3,9 +3,9 @@ use std::panic::{catch_unwind, AssertUnwindSafe};
 
 use feedercoil::ShipPlan;
 
-use crate::by_rust::RustShip;
+use crate::by_rust::{blocked_layers, names_blocked, RustShip};
 use crate::calls::{library, words, Answer, Asked, Call, NAMES};
-use crate::met::Met;
+use crate::met::{Met, CALL_LEFT_OUT};
 use crate::outcomes;
 use crate::questions::{first_no, work_asked};
 
@@ -49,6 +49,17 @@ pub fn expected(ship: &mut Ship, asked: &Asked) -> Expected {
     Expected { answer: if short { Answer::Refused(20) } else { Answer::Wrote(answer) }, output, work }
 }
 
+/// How many seats or points of an answered call name a blocked deck, so that the Rust's answer is left out.
+pub fn left_out(asked: &Asked) -> usize {
+    let named: Vec<u32> = match &asked.call {
+        Call::Run { seats } => seats.chunks(20).map(|seat| words(seat)[2]).collect(),
+        Call::ClosestPoints(query) | Call::ClosestPoint(query) => vec![query.deck],
+        _ => return 0,
+    };
+    let blocked = blocked_layers(&asked.blocked);
+    named.into_iter().filter(|&deck| names_blocked(deck, &blocked)).count()
+}
+
 /// A difference is said with the call and both answers. A panic of the Rust is one too.
 pub fn compare(ship: &mut Ship, asked: &Asked, met: &mut Met) -> Result<(), String> {
     met.calls += 1;
@@ -85,6 +96,7 @@ pub fn tell(ship: &Ship, asked: &Asked, expected: &Expected, met: &mut Met) {
             let records = bytes.chunks(36).map(words);
             seats.chunks(20).map(words).zip(records).for_each(|(seat, record)| outcomes::seat(met, rust, &asked.blocked, &seat, &record));
         }
+        Call::ClosestPoints(_) | Call::ClosestPoint(_) => met.see_times(CALL_LEFT_OUT, left_out(asked) as u64),
         Call::CandidatePolygons { query, polygon: u32::MAX } => outcomes::merged(met, rust, *query, &asked.blocked, bytes),
         Call::PointLayer(query) => outcomes::probes(met, rust, *query, bytes),
         Call::Islands { deck } => outcomes::labels(met, &rust.plan.decks[*deck as usize], bytes),

@@ -57,7 +57,7 @@ fn library_height(plan: &ShipPlan, polygon: u32) -> Result<Option<f32>, Refusal>
 /// What the first column of the table says, and whether both sides are as it says.
 pub type Difference = (&'static str, fn() -> bool);
 
-pub const DIFFERENCES: [Difference; 18] = [
+pub const DIFFERENCES: [Difference; 19] = [
     ("the height on an edge whose squared length rounds to 0", || {
         let plan = ship(vec![point(&[1.0])]);
         let height = Coords::on_polygon(vec2(0.0, 0.0), 0).height(&rust(&plan));
@@ -130,6 +130,18 @@ pub const DIFFERENCES: [Difference; 18] = [
         let mut plan = ship(vec![far; 256]);
         plan.decks.push(point(&[]));
         found(&rust(&plan), vec2(0.0, 0.0)) == [0] && refused(&plan, 2)
+    }),
+    ("a blocked deck that is named, by a seat or a closest-point call", || {
+        let plan = ship(vec![point(&[])]);
+        let (mesh, library) = (rust(&plan), Ship::new(plan.file()));
+        let (at, shut) = (Coords::on_layer(vec2(0.0, 0.0), 0), BlockedDecks::from_iter([0]));
+        let points = mesh.get_closest_points_on_layers(at, HashSet::from([0])).len();
+        let point = mesh.get_closest_point_on_layers(at, HashSet::from([0])).is_some();
+        let seat = Seat { deck: Some(0), ..Seat::at(0.0, 0.0) };
+        (points, point) == (1, true)
+            && library.run(&shut, &[seat]) == Ok(vec![SeatRecord::Unplaced { tried: 0 }])
+            && library.get_closest_points_on_layers(0.0, 0.0, Some(0), &shut) == Ok(vec![])
+            && library.get_closest_point_on_layers(0.0, 0.0, Some(0), &shut) == Ok(None)
     }),
     ("a polygon of no vertices", || {
         let plan = ship(vec![deck(&[(0.0, 0.0)], &[], &[])]);

@@ -43,7 +43,7 @@ use std::process::exit;
 
 use calls::{library, Answer, Call};
 use glam::vec2;
-use met::Met;
+use met::{Met, CALL_LEFT_OUT, SEAT_LEFT_OUT};
 use polyanya::layers::Layer;
 use polyanya::mesh::MeshError;
 use polyanya::primitives::{Polygon, Vertex};
@@ -106,6 +106,8 @@ fn compare_all(calls: u64, seed: u64) {
     println!("compare: {} known differences are as docs/DIFFERENCES.md has them", differences::DIFFERENCES.len());
     println!("compare: each of {hit} samples of 16 steps was a seat's place, in {} calls", rings::CALLS);
     println!("compare: {long} calls with long lists agree");
+    let (seats, calls) = (met.count(SEAT_LEFT_OUT), met.count(CALL_LEFT_OUT));
+    println!("compare: left out, and held to document 02: {seats} seats and {calls} closest-point calls that name a blocked deck");
     println!("compare: {} random calls agree", met.calls);
 }
 

@@ -3,8 +3,12 @@ use std::collections::HashMap;
 
 use crate::calls::NAMES;
 
+/// Where the Rust's answer is left out, as it searches a blocked deck that is named.
+pub const SEAT_LEFT_OUT: &str = "seat left out: it names a blocked deck";
+pub const CALL_LEFT_OUT: &str = "closest-point call left out: it names a blocked deck";
+
 /// Kinds of ships, points and answers. To these come each call, step, probe and number of a refusal.
-const KINDS: [&str; 61] = [
+const KINDS: [&str; 62] = [
     "grid",
     "fan",
     "rectangles",
@@ -40,7 +44,8 @@ const KINDS: [&str; 61] = [
     "point -0",
     "seat unplaced",
     "seat on a named deck",
-    "seat on a blocked deck that it names",
+    SEAT_LEFT_OUT,
+    CALL_LEFT_OUT,
     "seat of a sample after the first",
     "seat of several candidates",
     "seat of candidates on several decks",

@@ -4,19 +4,21 @@ use std::collections::HashSet;
 use feedercoil::raw::{ANY_DECK, NO_POLYGON};
 use feedercoil::{DeckPlan, ShipPlan};
 
-use crate::by_rust::{blocked_layers, coords, RustShip};
+use crate::by_rust::{blocked_layers, coords, names_blocked, RustShip};
 use crate::calls::{words, Query};
 use crate::glam::vec2;
-use crate::met::Met;
+use crate::met::{Met, SEAT_LEFT_OUT};
 use crate::seen::{edges, from_edge, point};
 
 /// A seat and the Rust's record of it.
 pub fn seat(met: &mut Met, ship: &RustShip, blocked: &[u8], seat: &[u32], record: &[u32]) {
     let query = Query { x: f32::from_bits(seat[0]), y: f32::from_bits(seat[1]), deck: seat[2] };
     let blocked = blocked_layers(blocked);
+    if names_blocked(query.deck, &blocked) {
+        return met.see(SEAT_LEFT_OUT);
+    }
     let nearest = point(met, &ship.plan, query.x, query.y);
     met.see_if(query.deck != ANY_DECK, "seat on a named deck");
-    met.see_if(query.deck != ANY_DECK && blocked.contains(&(query.deck as u8)), "seat on a blocked deck that it names");
     if record[0] == NO_POLYGON {
         return met.see("seat unplaced");
     }
@@ -53,7 +55,7 @@ pub fn merged(met: &mut Met, ship: &RustShip, query: Query, blocked: &[u8], answ
     if query.deck != ANY_DECK && query.deck as usize >= ship.plan.decks.len() {
         return;
     }
-    let closed = query.deck != ANY_DECK && blocked.contains(&(query.deck as u8));
+    let closed = names_blocked(query.deck, &blocked);
     let found: Vec<u32> = ship.mesh.get_closest_points_on_layers(coords(query), blocked).iter().map(|c| c.polygon()).collect();
     if closed {
         return met.see_if(!found.is_empty(), "candidates of a blocked deck that is named");

@@ -3,7 +3,7 @@ use std::collections::HashSet;
 
 use feedercoil::raw::{ANY_DECK, NO_POLYGON};
 
-use crate::by_rust::{coords, entry, RustShip};
+use crate::by_rust::{coords, entry, names_blocked, RustShip};
 use crate::calls::Query;
 use crate::glam::{vec2, Vec2};
 use crate::polyanya::direction;
@@ -18,6 +18,9 @@ impl RustShip {
     pub fn record(&mut self, seat: &[u32], blocked: &HashSet<u8>) -> [u32; 9] {
         let [x, y] = [f32::from_bits(seat[0]), f32::from_bits(seat[1])];
         let query = Query { x, y, deck: seat[2] };
+        if names_blocked(query.deck, blocked) {
+            return [NO_POLYGON, 0, 0, 0, 0, 0, 0, 0, 0];
+        }
         let decks = self.mesh.layers.len();
         let open: Vec<usize> = match query.deck {
             ANY_DECK => (0..decks).filter(|&d| !blocked.contains(&(d as u8))).collect(),

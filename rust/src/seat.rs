@@ -6,7 +6,7 @@ use crate::raw::SEAT_SIZE;
 pub struct Seat {
     pub x: f32,
     pub y: f32,
-    /// The one deck that is searched, blocked or not; otherwise every deck that is not blocked.
+    /// The one deck that may be searched; `None` leaves them all. A blocked deck is searched for no seat, named or not.
     pub deck: Option<u32>,
     /// The wished height: of the candidates, the one nearest to it is chosen. Without a wish the first is.
     pub wish: Option<f32>,

@@ -51,7 +51,8 @@ impl<'a> Ship<'a> {
         Ok(SeatRecord::list(&out[..RECORD_SIZE * count]))
     }
 
-    /// The polygons nearest to a point by the ring search: all candidates of the first step with a hit.
+    /// The polygons nearest to a point by the ring search: all candidates of the first step with a hit. Where the named deck is
+    /// blocked there are none.
     pub fn get_closest_points_on_layers(
         &self,
         x: f32,

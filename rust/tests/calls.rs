@@ -39,8 +39,11 @@ fn run_on_two_decks() {
     assert_eq!(run(nothing, Seat { wish: Some(5.5), ..at }), placed(0, 2.0, 2, 2), "as near to 2 as to 9: the first");
     assert_eq!(run(nothing, Seat { wish: Some(6.0), ..at }), placed(1, 9.0, 2, 2));
     assert_eq!(run(blocked(&[0]), at), placed(1, 9.0, 1, 1));
-    assert_eq!(run(blocked(&[0, 1]), Seat { deck: Some(0), ..at }), placed(0, 2.0, 1, 1), "a named deck is open, blocked or not");
+    assert_eq!(run(blocked(&[1]), Seat { deck: Some(0), ..at }), placed(0, 2.0, 1, 1));
+    assert_eq!(run(blocked(&[0]), Seat { deck: Some(0), ..at }), SeatRecord::Unplaced { tried: 0 }, "a blocked deck is not searched");
     assert_eq!(run(blocked(&[0, 1]), at), SeatRecord::Unplaced { tried: 0 });
+    let absent = Seat { deck: Some(2), ..at };
+    assert_eq!(ship.run(&blocked(&[2]), &[absent]), Err(Refusal(17)), "an absent deck, whatever its bit");
     assert_eq!(run(nothing, Seat { deck: Some(1), wish: Some(0.0), ..at }).packed(), Some(PackedPolygon::new(1, 0)));
 }
 
@@ -67,12 +70,14 @@ fn closest_points() {
     // Step 1, sample 5 is half a unit to the right: deck 0 is hit at (0, 2), and deck 1 is not hit in this step.
     assert_eq!(points(-0.5, 2.0, None, nothing), [on(0, 0.0, 2.0)]);
     assert_eq!(points(1.5, 2.0, None, blocked(&[0])), [on(1, 2.0, 2.0)]);
-    assert_eq!(points(3.0, 1.0, Some(1), blocked(&[1])), [on(1, 3.0, 1.0)]);
+    assert_eq!(points(3.0, 1.0, Some(1), blocked(&[0])), [on(1, 3.0, 1.0)]);
+    assert_eq!(points(3.0, 1.0, Some(1), blocked(&[1])), []);
     assert_eq!(points(9.0, 9.0, None, nothing), []);
 
     let first = |x, y, deck, blocked| ship.get_closest_point_on_layers(x, y, deck, &blocked).unwrap();
     assert_eq!(first(3.0, 1.0, None, nothing), Some(on(0, 3.0, 1.0)));
     assert_eq!(first(3.0, 1.0, None, blocked(&[0])), Some(on(1, 3.0, 1.0)));
+    assert_eq!(first(3.0, 1.0, Some(0), blocked(&[0])), None);
     assert_eq!(first(9.0, 9.0, None, nothing), None);
     assert_eq!(ship.get_closest_points_on_layers(1.0, 1.0, Some(2), &nothing), Err(Refusal(17)));
     assert_eq!(ship.get_closest_point_on_layers(1.0, 1.0, Some(2), &nothing), Err(Refusal(17)));

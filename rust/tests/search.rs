@@ -91,9 +91,10 @@ struct Found {
     candidates: Vec<(Candidate, u32)>,
 }
 
-/// Section 5.
+/// Section 5, and document 02, point 1: the blocked set comes first.
 fn search(plan: &ShipPlan, p: Point, deck: Option<u32>, blocked: &BlockedDecks) -> Found {
-    let open: Vec<u8> = (0..plan.decks.len() as u8).filter(|&d| deck.map_or(!blocked.contains(d), |named| named == u32::from(d))).collect();
+    let free = (0..plan.decks.len() as u8).filter(|&d| !blocked.contains(d));
+    let open: Vec<u8> = free.filter(|&d| deck.is_none_or(|named| named == u32::from(d))).collect();
     let mut found = Found { step: 0, tried: 0, candidates: vec![] };
     for step in 0..plan.steps {
         found.step = step;
@@ -231,7 +232,7 @@ fn ship(random: &mut Random) -> ShipPlan {
 #[test]
 fn every_search() {
     let mut random = Random(0x0CEA_2117_0CEA_2117);
-    let (mut several, mut dropped) = (0, 0);
+    let (mut several, mut dropped, mut unsearched) = (0, 0, 0);
     for _ in 0..3000 {
         let plan = ship(&mut random);
         let file = plan.file();
@@ -264,10 +265,10 @@ fn every_search() {
             assert_eq!(ship.get_point_layer(x, y, asked).unwrap(), layers, "{plan:?} {x} {y}");
             assert_eq!(ship.get_point_location(x, y, asked).unwrap(), layers.first().copied());
 
-            let closed = |d| d >= decks || blocked.contains(d as u8);
-            let list: Vec<_> = if asked.map(closed) == Some(true) { vec![] } else { found.iter().map(|c| c.polygon).collect() };
+            let list: Vec<_> = if asked == Some(decks) { vec![] } else { found.iter().map(|c| c.polygon).collect() };
             let merged = merged(&plan, &list);
             assert_eq!(ship.candidate_polygons(x, y, asked, None, &blocked).unwrap(), merged, "{plan:?} {x} {y}");
+            unsearched += u32::from(deck.is_some_and(|d| blocked.contains(d as u8)));
             several += u32::from(list.len() > 1);
             dropped += u32::from(merged.len() < list.len());
         }
@@ -277,4 +278,5 @@ fn every_search() {
         }
     }
     assert!(several > 3000 && dropped > 500, "{several} of several candidates, {dropped} merged");
+    assert!(unsearched > 1000, "{unsearched} that name a blocked deck");
 }

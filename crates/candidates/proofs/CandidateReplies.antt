@@ -18,18 +18,18 @@ use Rattle.answers.specs.declared.Check.the-variants.{Passed, No}
 use Rattle.answers.specs.declared.Answer.{Answer}
 use Rattle.answers.specs.declared.Answer.the-variants.{Refused, Wrote}
 use Rattle.answers.specs.Checks.{ask, after}
-use Rattle.answers.specs.Questions.{question20}
+use Rattle.answers.specs.Questions.{question17, question20}
 use Rattle.answers.specs.Replies.{Reply, replyOf, Replied, workTo, Worked}
 use Rattle.answers.proofs.Asking.{said-no, said-yes, q20-short, q20-fits, q20-yes}
 use Rattle.answers.proofs.Replying.{worked-refused, worked-narrow, worked-short, worked-written}
-use Rattle.ship.specs.Layout.{numberSize}
+use Rattle.ship.specs.Layout.{numberSize, decksIn}
 use Rattle.ship.specs.Decode.{decode}
 use Rattle.touching.specs.Touching.{touches}
 use Rattle.touching.specs.Reach.{merged}
 use Rattle.touching.proofs.Reaching.{merged-few}
 use Rattle.survey.specs.declared.Seat.{Seat}
 use Rattle.numbering.specs.Numbers.{stepNumbers, stepMerged}
-use Rattle.candidates.specs.Candidates.{candidateCheck, givesNothing, foundPolygons, candidatePolygons, polygonTotal, candidatesWork, CandidatesWorked}
+use Rattle.candidates.specs.Candidates.{candidateCheck, foundPolygons, candidatePolygons, polygonTotal, candidatesWork, CandidatesWorked}
 use Rattle.candidates.specs.Written.{NumbersWorked, ListFits, NumbersMerged, foundMerged}
 
 -- ---- a list of polygons
@@ -97,6 +97,13 @@ lifted {polygons} {polygons′} {check} {wanted} {out} {out′} {work} {work′}
     rw (← same)
     (record { replied = subst (λ (c : Check). Replied (R c) out out′ r) k (w .replied); work-is = subst (λ (c : Check). work′ ≡ workTo (R c) out work) k (w .work-is) })
 
+module _ (file : List ℕ) (deck : ℕ) {decks : ℕ} {there : Bool} (count : decks ≡ decksIn file) (told : there ≡ question17 decks deck) where
+  deck-absent : not there ≡ true → question17 (decksIn file) deck ≡ false
+  deck-absent t = rw count at (said-no told t)
+
+  pub deck-there : not there ≡ false → question17 (decksIn file) deck ≡ true
+  deck-there t = rw count at (said-yes told t)
+
 pub call-wide : (file work : List ℕ) {total : ℕ} {fits : Bool} → total ≡ polygonTotal file → fits ≡ question20 (numberSize * total) (length work) → not fits ≡ false
     → candidatesWork file ≤ length work
 call-wide file work {total} all said room = rw all at (q20-fits (numberSize * total) (length work) (said-yes said room))
@@ -115,11 +122,11 @@ module _ (file : List ℕ) (p : Vec2) (deck polygon : ℕ) (blocked : List ℕ) 
         unfolding candidatePolygons
         call-named d w = lifted w (sym asked ∙ passed) (call-wide file work all said room) (rw (ne-eqb polygon allOnes d))
 
-        module _ (any : polygon ≡ allOnes) {g : Bool} (nothing : g ≡ givesNothing file deck blocked) where
-          pub call-nothing : g ≡ true → NumbersWorked [] out out′ work work′ r → CandidatesWorked file p deck polygon blocked out out′ work work′ r
+        module _ (any : polygon ≡ allOnes) {decks : ℕ} {there : Bool} (count : decks ≡ decksIn file) (told : there ≡ question17 decks deck) where
+          pub call-absent : not there ≡ true → NumbersWorked [] out out′ work work′ r → CandidatesWorked file p deck polygon blocked out out′ work work′ r
           unfolding candidatePolygons foundPolygons merged collect
-          call-nothing t w = lifted w (sym asked ∙ passed) (call-wide file work all said room) (rw (eq-eqb polygon allOnes any, sym nothing ∙ t))
+          call-absent t w = lifted w (sym asked ∙ passed) (call-wide file work all said room) (rw (eq-eqb polygon allOnes any, deck-absent file deck count told t))
 
-          pub call-found : g ≡ false → NumbersWorked (foundMerged file p deck blocked) out out′ work work′ r → CandidatesWorked file p deck polygon blocked out out′ work work′ r
+          pub call-found : not there ≡ false → NumbersWorked (foundMerged file p deck blocked) out out′ work work′ r → CandidatesWorked file p deck polygon blocked out out′ work work′ r
           unfolding candidatePolygons foundPolygons
-          call-found t w = lifted w (sym asked ∙ passed) (call-wide file work all said room) (rw (eq-eqb polygon allOnes any, sym nothing ∙ t))
+          call-found t w = lifted w (sym asked ∙ passed) (call-wide file work all said room) (rw (eq-eqb polygon allOnes any, deck-there file deck count told t))

@@ -12,10 +12,10 @@ use Rattle.words.specs.Rows.{collect}
 use Rattle.answers.specs.declared.Check.{Check}
 use Rattle.answers.specs.declared.Check.the-variants.{Passed}
 use Rattle.answers.specs.declared.Answer.{Answer}
-use Rattle.answers.specs.Questions.{question20}
+use Rattle.answers.specs.Questions.{question17, question20}
 use Rattle.records.specs.declared.SeatRecord.{SeatRecord}
 use Rattle.records.specs.Record.{isUnplaced}
-use Rattle.ship.specs.Layout.{numberSize}
+use Rattle.ship.specs.Layout.{numberSize, decksIn}
 use Rattle.ship.specs.Decode.{decode}
 use Rattle.survey.specs.declared.Seat.{Seat}
 use Rattle.survey.specs.Search.{seatRecord, candidates}
@@ -28,11 +28,11 @@ use Rattle.touching.specs.Reach.{merged}
 use Rattle.touching.proofs.Reaching.{merged-sound}
 use Rattle.numbering.specs.Numbers.{packedCandidate, stepNumbers, stepMerged}
 use Rattle.numbering.proofs.NumberLoop.{numbers-length}
-use Rattle.candidates.specs.Candidates.{candidateCheck, givesNothing, foundPolygons, polygonTotal, CandidatesMerged}
+use Rattle.candidates.specs.Candidates.{candidateCheck, foundPolygons, polygonTotal, CandidatesMerged}
 use Rattle.candidates.specs.Written.{NumbersWorked, ListFits, FoundReady, foundMerged}
-use Rattle.candidates.proofs.CandidateAsks.{file-passed, blocked-long, query-asked}
+use Rattle.candidates.proofs.CandidateAsks.{file-passed, query-asked}
 use Rattle.candidates.proofs.PolygonTotal.{numbers-few}
-use Rattle.candidates.proofs.CandidateReplies.{call-refused, call-wide, call-narrow, call-named, call-nothing, call-found}
+use Rattle.candidates.proofs.CandidateReplies.{deck-there, call-refused, call-wide, call-narrow, call-named, call-absent, call-found}
 
 -- ---- `put_found`
 module _ {file : List ℕ} {p : Vec2} {deck : ℕ} {blocked work : List ℕ} (ready : FoundReady file p deck blocked work) {seat : Seat} (is : seat ≡ askedAt p deck) where
@@ -72,12 +72,12 @@ pub ruleset found-numbers = (found-ready, found-none, found-fits, found-some)
 -- ---- `candidate_polygons`
 pub call-ready : (file : List ℕ) (p : Vec2) (deck : ℕ) (blocked work : List ℕ) {c : Check} → c ≡ candidateCheck file p blocked → c ≡ Passed
     → {total : ℕ} {fits : Bool} → total ≡ polygonTotal file → fits ≡ question20 (numberSize * total) (length work) → not fits ≡ false
-    → {g : Bool} → g ≡ givesNothing file deck blocked → g ≡ false → FoundReady file p deck blocked work
-call-ready file p deck blocked work asked passed all said room e f =
-    record { passed = query-asked file p blocked asked passed deck e f; wide = call-wide file work all said room }
+    → {decks : ℕ} {there : Bool} → decks ≡ decksIn file → there ≡ question17 decks deck → not there ≡ false → FoundReady file p deck blocked work
+call-ready file p deck blocked work asked passed all said room count told t =
+    record { passed = query-asked file p blocked asked passed deck (deck-there file deck count told t); wide = call-wide file work all said room }
 
 pub call-merged : (file : List ℕ) (p : Vec2) (deck : ℕ) (blocked : List ℕ) → CandidatesMerged file p deck blocked
 call-merged file p deck blocked = merged-sound (touches (decode file)) (foundPolygons file p deck blocked)
 
 pub ruleset candidate-call =
-    (file-passed, blocked-long, call-ready, call-refused, call-narrow, call-named, call-nothing, call-found, call-merged)
+    (file-passed, call-ready, call-refused, call-narrow, call-named, call-absent, call-found, call-merged)

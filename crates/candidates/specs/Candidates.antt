@@ -1,8 +1,8 @@
 -- Document 01, section 8, `candidate_polygons`: its questions and its entries.
 use Prim.Native.Nat.{ℕ, _*_}
-use mathlib.Core.Bool.{Bool, not, _&&_, _||_, cond}
+use mathlib.Core.Bool.{cond}
 use mathlib.Core.List.{List, [], _∷_, map}
-use lib.Dec.{eqb, ltb}
+use lib.Dec.{eqb}
 use lib.IntN.{ℤ}
 use lib.ListN.{length}
 use lib.Ieee.{Float}
@@ -13,13 +13,12 @@ use Rattle.answers.specs.declared.Check.{Check}
 use Rattle.answers.specs.declared.Check.the-variants.{Passed}
 use Rattle.answers.specs.declared.Answer.{Answer}
 use Rattle.answers.specs.Checks.{ask, after}
-use Rattle.answers.specs.Questions.{question14}
+use Rattle.answers.specs.Questions.{question14, question17}
 use Rattle.answers.specs.Replies.{Reply, replyOf, Worked, WorkedCode}
 use Rattle.ship.specs.Layout.{numberSize, decksIn}
 use Rattle.ship.specs.Model.{deckOf}
 use Rattle.ship.specs.Decode.{decode}
 use Rattle.ship.specs.Questions.{firstNo}
-use Rattle.survey.specs.Wishes.{isBlocked}
 use Rattle.calls.specs.Closest.{pointOfParts, question16, closestPoints}
 use Rattle.touching.specs.Touching.{touches}
 use Rattle.touching.specs.Reach.{merged, MergedSound}
@@ -29,13 +28,9 @@ use Rattle.numbering.specs.Numbers.{packedCandidate}
 unfoldable pub candidateCheck : List ℕ → Vec2 → List ℕ → Check
 candidateCheck file p blocked = after (firstNo file) (ask (question14 blocked) 14 (ask (question16 p) 16 Passed))
 
--- 'a blocked named deck, or an absent one, gives nothing'
-unfoldable pub givesNothing : List ℕ → ℕ → List ℕ → Bool
-givesNothing file deck blocked = not (eqb deck allOnes) && (not (ltb deck (decksIn file)) || isBlocked blocked deck)
-
--- 'as 5, packed'
+-- 'as 5, packed, except that .. an absent one gives nothing'; a blocked one is not open in 5 and gives nothing there
 unfoldable pub foundPolygons : List ℕ → Vec2 → ℕ → List ℕ → List ℕ
-foundPolygons file p deck blocked = cond (givesNothing file deck blocked) [] (map packedCandidate (closestPoints file p deck blocked))
+foundPolygons file p deck blocked = cond (question17 (decksIn file) deck) (map packedCandidate (closestPoints file p deck blocked)) []
 
 -- 'a polygon already named comes back unchecked'; otherwise those found, merged
 unfoldable pub candidatePolygons : List ℕ → Vec2 → ℕ → ℕ → List ℕ → List ℕ

@@ -8,13 +8,12 @@ ghost use Rattle.answers.specs.Questions.{question20};
 ghost use Rattle.ship.specs.Layout.{numberSize};
 ghost use Rattle.ship.specs.Questions.{firstNo};
 ghost use Rattle.numbering.specs.Numbers.{stepMerged, StepCounted};
-ghost use Rattle.candidates.specs.Candidates.{candidateCheck, givesNothing, polygonTotal, CandidatesWorked, CandidatesMerged};
+ghost use Rattle.candidates.specs.Candidates.{candidateCheck, polygonTotal, CandidatesWorked, CandidatesMerged};
 ghost use Rattle.candidates.specs.Written.{NumbersWorked, ListFits, NumbersMerged, FoundReady, foundMerged};
 use answers::Answer;
 use answers::Check;
 use geometry::Vec2;
 use ship::NUMBER_SIZE;
-use survey::DeckChoice;
 use survey::Seat;
 
 // The most numbers that are merged in an array of one's own, and its bytes.
@@ -53,21 +52,6 @@ fn polygon_total(file: &[u8]) -> usize
         d += 1;
     }
     total
-}
-
-// Whether the named deck is blocked, or absent.
-fn gives_nothing(file: &[u8], deck: u32, blocked: &[u8]) -> bool
-    requires { ⌜ (firstNo (now file) ≡ Passed) × (length (now blocked) ≡ 32) ⌝ }
-    ensures { λ r. ⌜ r ≡ givesNothing (now (file .entry)) deck (now (blocked .entry)) ⌝ }
-{
-    if deck == 0xFFFF_FFFF {
-        return false;
-    }
-    let d = deck as usize;
-    if d >= decks::deck_count(file) {
-        return true;
-    }
-    !survey::is_open(blocked, DeckChoice::AnyDeck, d)
 }
 
 // No polygon.
@@ -226,7 +210,7 @@ pub fn candidate_polygons(
     if polygon != 0xFFFF_FFFF {
         return put_named(polygon, out, work);
     }
-    if gives_nothing(file, deck, blocked) {
+    if !answers::deck_there(decks::deck_count(file), deck) {
         return put_none(out, work);
     }
     put_found(file, p, deck, blocked, out, work)

@@ -69,8 +69,18 @@ wishing : List ℕ
 wishing =
     0 ∷ 0 ∷ 128 ∷ 63 ∷ 0 ∷ 0 ∷ 128 ∷ 63 ∷ 255 ∷ 255 ∷ 255 ∷ 255 ∷ 1 ∷ 0 ∷ 0 ∷ 0 ∷ 0 ∷ 0 ∷ 144 ∷ 64 ∷ []
 
+-- kind 0, all at (1,1): deck 1 named, deck 0 named, deck open
+naming : List ℕ
+naming =
+    0 ∷ 0 ∷ 128 ∷ 63 ∷ 0 ∷ 0 ∷ 128 ∷ 63 ∷ 1 ∷ 0 ∷ 0 ∷ 0 ∷ 0 ∷ 0 ∷ 0 ∷ 0 ∷ 0 ∷ 0 ∷ 0 ∷ 0 ∷
+    0 ∷ 0 ∷ 128 ∷ 63 ∷ 0 ∷ 0 ∷ 128 ∷ 63 ∷ 0 ∷ 0 ∷ 0 ∷ 0 ∷ 0 ∷ 0 ∷ 0 ∷ 0 ∷ 0 ∷ 0 ∷ 0 ∷ 0 ∷
+    0 ∷ 0 ∷ 128 ∷ 63 ∷ 0 ∷ 0 ∷ 128 ∷ 63 ∷ 255 ∷ 255 ∷ 255 ∷ 255 ∷ 0 ∷ 0 ∷ 0 ∷ 0 ∷ 0 ∷ 0 ∷ 0 ∷ 0 ∷ []
+
 nothing-blocked : List ℕ
 nothing-blocked = replicate 32 0
+
+deck-1-blocked : List ℕ
+deck-1-blocked = 2 ∷ replicate 31 0
 
 -- the nine numbers in the record's order
 abbrev numbers : ℕ → ℕ → ℕ → ℕ → ℕ → ℕ → ℕ → ℕ → ℕ → SeatRecord
@@ -96,6 +106,15 @@ worked-example = refl
 wish-chooses : seatRun (decode two-decks) nothing-blocked (seatsOf wishing) ≡ numbers 0x0100_0000 0x3F80_0000 0x3F80_0000 1 0x40A0_0000 0 0 2 2 ∷ []
 unfolding two-decks wishing nothing-blocked seatRun seatAt rows u32At blocksAt deckAt decode pointOf cornersOf heightOf polygonPoints polygonCorners isBlocked isOpen nearer polygonHit sampleHit collect sumOf turn triedBefore bestOf firstStep seatRecord choiceOf sampleOn placeOf shownFrom passesAt heightOn directions sideOf inRange inBoundingBox onSegment edgeTestOf edgesFrom pointInPolygon heightAlong sumFrom heightFrom meanHeight heightIn ofInt ofBits div add sub mul lt le eq round sum neg units odd size climb span ofFields toBits
 wish-chooses = refl
+
+-- the blocked set comes first: the seat that names deck 1 is unplaced with nothing tried, the others have deck 0 alone
+blocked-comes-first : seatRun (decode two-decks) deck-1-blocked (seatsOf naming)
+    ≡ numbers 0xFFFF_FFFF 0 0 0 0 0 0 0 0
+    ∷ numbers 0 0x3F80_0000 0x3F80_0000 1 0x4000_0000 0 0 1 1
+    ∷ numbers 0 0x3F80_0000 0x3F80_0000 1 0x4000_0000 0 0 1 1
+    ∷ []
+unfolding two-decks naming deck-1-blocked seatRun seatAt rows u32At blocksAt deckAt decode pointOf cornersOf heightOf polygonPoints polygonCorners isBlocked isOpen nearer polygonHit sampleHit collect sumOf turn triedBefore bestOf firstStep seatRecord choiceOf sampleOn placeOf shownFrom passesAt heightOn directions sideOf inRange inBoundingBox onSegment edgeTestOf edgesFrom pointInPolygon heightAlong sumFrom heightFrom meanHeight heightIn ofInt ofBits div add sub mul lt le eq round sum neg units odd size climb span ofFields toBits
+blocked-comes-first = refl
 
 -- 36 bytes a seat are room enough, and a byte less is not
 room : (answerTo (runReply file nothing-blocked seats) (replicate 108 0) ≡ Wrote 3) × (answerTo (runReply file nothing-blocked seats) (replicate 107 0) ≡ Refused 20)

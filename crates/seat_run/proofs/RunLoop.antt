@@ -27,9 +27,11 @@ use Rattle.walking.specs.Sees.{seenBy, SearchReady}
 use Rattle.seat_run.specs.SeatFile.{seatAt, seatCount, question16Seat}
 use Rattle.seat_run.specs.Run.{runCheck, runRecords, runReply, RecordsReady, RecordsPut}
 use Rattle.seat_run.specs.Survey.{Surveyed}
+use Rattle.seat_run.specs.Blocked.{BlockedUnplaced}
 use Rattle.seat_run.proofs.SeatAsks.{RunPassed, run-yes, run-blocked, seat-yes16, seat-inside}
 use Rattle.seat_run.proofs.RunRecords.{run-at, run-length, reply-long}
 use Rattle.seat_run.proofs.SurveyTheorem.{surveyed}
+use Rattle.seat_run.proofs.BlockedTheorem.{blocked-unplaced}
 
 -- ---- `put_records`: the records of the seats below i stand in the output, and the others are left
 pub record Recording (file blocked : List ℕ) (table : List ℤ) (seats out₀ out : List ℕ) (i : ℕ) : Type 0 where
@@ -97,4 +99,7 @@ module _ (file blocked seats : List ℕ) {r : Check} (asked : r ≡ runCheck fil
     pub run-surveyed : {out′ : List ℕ} → RecordsPut file blocked seats out out′ → Surveyed file blocked seats (Wrote (seatCount seats)) out′
     run-surveyed w = surveyed file blocked seats out (run-replied w)
 
-pub ruleset running = (replied-refused, run-refused, run-ready, run-replied, run-surveyed)
+    pub run-unsearched : {out′ : List ℕ} → RecordsPut file blocked seats out out′ → BlockedUnplaced file blocked seats (Wrote (seatCount seats)) out′
+    run-unsearched w = blocked-unplaced file blocked seats out (run-replied w)
+
+pub ruleset running = (replied-refused, run-refused, run-ready, run-replied, run-surveyed, run-unsearched)

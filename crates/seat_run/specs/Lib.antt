@@ -1,3 +1,4 @@
 pub mod SeatFile
 pub mod Run
 pub mod Survey
+pub mod Blocked

@@ -11,6 +11,7 @@ ghost use Rattle.ship.specs.Floats.{inSize};
 ghost use Rattle.seat_run.specs.SeatFile.{seatSize, seatWord, seatFloat, seatAt, seatCount, kindAllowed, question16Seat, seatCheck};
 ghost use Rattle.seat_run.specs.Run.{runCheck, RunReplied, RecordsReady, RecordsPut};
 ghost use Rattle.seat_run.specs.Survey.{Surveyed};
+ghost use Rattle.seat_run.specs.Blocked.{BlockedUnplaced};
 use answers::Answer;
 use answers::Check;
 use geometry::Vec2;
@@ -151,11 +152,12 @@ fn put_records(file: &[u8], blocked: &[u8], table: &[i32; 2432], seats: &[u8], o
     }
 }
 
-// The seat run. The surveyor's statement holds of every run that is not refused.
+// The seat run. The surveyor's statement holds of every run that is not refused, and a seat that names a blocked deck is not searched for.
 pub fn run(file: &[u8], blocked: &[u8], seats: &[u8], out: &mut [u8]) -> Answer
     ensures replied { λ r. ⌜ RunReplied (now (file .entry)) (now (blocked .entry)) (now (seats .entry))
         (now (out .entry)) (now (out .exit)) r ⌝ }
     ensures surveyed { λ r. ⌜ Surveyed (now (file .entry)) (now (blocked .entry)) (now (seats .entry)) r (now (out .exit)) ⌝ }
+    ensures unsearched { λ r. ⌜ BlockedUnplaced (now (file .entry)) (now (blocked .entry)) (now (seats .entry)) r (now (out .exit)) ⌝ }
 {
     match run_check(file, blocked, seats) {
         Check::No(number) => return Answer::Refused(number),

@@ -27,6 +27,7 @@ use Rattle.removal.proofs.Codes.{removal-fits}
 use Rattle.records.proofs.ReadBack.{records-length}
 use Rattle.seat_run.specs.Run.{runRecords, runReply}
 use Rattle.seat_run.proofs.SurveyTheorem.{surveyed-code}
+use Rattle.seat_run.proofs.BlockedTheorem.{blocked-unplaced-code}
 
 module _ (file : List ℕ) (p : Vec2) (deck : ℕ) (blocked : List ℕ) {out out′ : List ℕ} {r : Answer} where
   pub points-code : Replied (closestPointsReply file p deck blocked) out out′ r → length out < 2 ^ 64 → AnswerFits r
@@ -67,4 +68,4 @@ pub ruleset work-codes = (islands-code, candidates-code, worked-code, worked-len
 
 pub ruleset removal-codes = (removal-fits, replied-code)
 
-pub ruleset run-codes = (run-code, replied-code, surveyed-code)
+pub ruleset run-codes = (run-code, replied-code, surveyed-code, blocked-unplaced-code)

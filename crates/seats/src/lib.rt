@@ -10,14 +10,17 @@ ghost use Rattle.unstitched.specs.declared.Stitches.the-variants.{All, ToLayer}
 ghost use Rattle.unstitched.specs.NewFile.{RemovalCode, RemovalSound};
 ghost use Rattle.seat_run.specs.Run.{RunCode};
 ghost use Rattle.seat_run.specs.Survey.{SurveyedCode};
+ghost use Rattle.seat_run.specs.Blocked.{BlockedUnplacedCode};
 use geometry::Vec2;
 
-// The surveyor's statement holds of every run that is not refused.
+// The surveyor's statement holds of every run that is not refused, and a seat that names a blocked deck is not searched for.
 #[no_mangle]
 pub extern "C" fn seats_run(file: &[u8], blocked: &[u8], seats: &[u8], out: &mut [u8]) -> i64
     ensures replied { λ r. ⌜ RunCode (now (file .entry)) (now (blocked .entry)) (now (seats .entry))
         (now (out .entry)) (now (out .exit)) r ⌝ }
     ensures surveyed { λ _. ⌜ SurveyedCode (now (file .entry)) (now (blocked .entry)) (now (seats .entry))
+        (now (out .entry)) (now (out .exit)) ⌝ }
+    ensures unsearched { λ _. ⌜ BlockedUnplacedCode (now (file .entry)) (now (blocked .entry)) (now (seats .entry))
         (now (out .entry)) (now (out .exit)) ⌝ }
 {
     answers::code(seat_run::run(file, blocked, seats, out))

@@ -4,4 +4,5 @@ pub mod SurveyHolds
 pub mod SurveyUnique
 pub mod Loops
 pub mod Recorded
+pub mod NoneOpen
 pub mod SeatAsks

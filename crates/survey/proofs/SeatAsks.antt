@@ -1,5 +1,5 @@
 -- `choice_of`, `is_open` and `prefers_height`: from what their calls returned and their tests found to what their contracts say.
-use mathlib.Core.Path.{_≡_}
+use mathlib.Core.Path.{_≡_, sym, ap, _∙_}
 use mathlib.Core.Bool.{Bool, true, false, not}
 use mathlib.Core.List.{List}
 use Prim.Native.Nat.{ℕ, _/_, _%_}
@@ -29,16 +29,21 @@ module _ {deck : ℕ} where
 pub ruleset choices = (any-deck, named-deck)
 
 -- ---- `is_open`
-module _ (blocked : List ℕ) (d : ℕ) {choice : DeckChoice} where
-  pub open-named : (n : ℕ) → choice ≡ Named n → eqb n d ≡ isOpen blocked choice d
-  unfolding isOpen
-  open-named n e = rw e
-
-  pub open-any : {b : Bool} → b ≡ bitOf (getD blocked (d / 8) 0) (d % 8) → choice ≡ AnyDeck → not b ≡ isOpen blocked choice d
+module _ (blocked : List ℕ) (d : ℕ) {choice : DeckChoice} {b : Bool} (h : b ≡ bitOf (getD blocked (d / 8) 0) (d % 8)) where
+  pub open-any : choice ≡ AnyDeck → not b ≡ isOpen blocked choice d
   unfolding isOpen isBlocked
-  open-any h e = rw (e, h)
+  open-any e = rw (e, h)
 
-pub ruleset opens = (open-named, open-any)
+  module _ (n : ℕ) (e : choice ≡ Named n) where
+    pub open-named : not b ≡ true → eqb n d ≡ isOpen blocked choice d
+    unfolding isOpen isBlocked
+    open-named free = rw (e, sym (ap not h) ∙ free)
+
+    pub open-blocked : not b ≡ false → not b ≡ isOpen blocked choice d
+    unfolding isOpen isBlocked
+    open-blocked shut = shut ∙ rw (e, sym (ap not h) ∙ shut)
+
+pub ruleset opens = (open-any, open-named, open-blocked)
 
 -- ---- `prefers_height`
 module _ (a b : Height) {wish : Wish} where

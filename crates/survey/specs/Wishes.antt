@@ -1,7 +1,7 @@
--- Document 01, sections 5 and 7: which decks are open to a seat, and which of two heights it prefers.
+-- Document 01, sections 5 and 7, and document 02, point 1: which decks are open to a seat, and which of two heights it prefers.
 use Prim.Native.Nat.{ℕ, _/_, _%_, _^_}
 use mathlib.Core.List.{List}
-use mathlib.Core.Bool.{Bool, true, false, not, cond}
+use mathlib.Core.Bool.{Bool, true, false, not, cond, _&&_}
 use lib.Dec.{eqb}
 use lib.ListN.{getD}
 use lib.Ieee.{Float, binary32, sub, lt}
@@ -26,10 +26,10 @@ bitOf byte place = eqb (byte / 2 ^ place % 2) 1
 unfoldable pub isBlocked : List ℕ → ℕ → Bool
 isBlocked blocked d = bitOf (getD blocked (d / 8) 0) (d % 8)
 
--- the named one alone, blocked or not; otherwise those not in the blocked set
+-- not in the blocked set and, where a deck is named, that one
 unfoldable pub isOpen : List ℕ → DeckChoice → ℕ → Bool
 isOpen blocked AnyDeck d = not (isBlocked blocked d)
-isOpen blocked (Named n) d = eqb n d
+isOpen blocked (Named n) d = not (isBlocked blocked d) && eqb n d
 
 -- |candidate height - wished| in f32
 abbrev pub gapOf : Float → Float → Float

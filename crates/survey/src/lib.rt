@@ -45,14 +45,15 @@ fn bit(byte: u8, place: usize) -> bool
     (byte >> place) % 2 == 1
 }
 
-// Whether deck d is open: the named one alone, blocked or not; otherwise those not in the blocked set.
+// Whether deck d is open: it is not in the blocked set and, where a deck is named, it is that one.
 pub fn is_open(blocked: &[u8], choice: DeckChoice, d: usize) -> bool
     requires { ⌜ (length (now blocked) ≡ 32) × (d < 256) ⌝ }
     ensures { λ r. ⌜ r ≡ isOpen (now (blocked .entry)) choice d ⌝ }
 {
+    let free = !bit(blocked[d / 8], d % 8);
     match choice {
-        DeckChoice::Named(n) => n == d,
-        DeckChoice::AnyDeck => !bit(blocked[d / 8], d % 8),
+        DeckChoice::AnyDeck => free,
+        DeckChoice::Named(n) => free && n == d,
     }
 }
 

@@ -37,8 +37,11 @@ same-length-2 c = search (candidate-call, needs)
 returns-3 : tie.Need-returns-3
 returns-3 c = search (candidate-call, needs)
 
-gives-nothing-requires : tie.Need-gives-nothing-requires
-gives-nothing-requires c κs = search (candidate-call, needs)
+deck-count-requires : tie.Need-deck-count-requires
+deck-count-requires c κs = search (candidate-call, needs)
+
+deck-there-requires : tie.Need-deck-there-requires
+deck-there-requires c κs = search (candidate-call, needs)
 
 put-none-requires : tie.Need-put-none-requires
 put-none-requires c κs = search (candidate-call, needs)
@@ -79,7 +82,8 @@ candidate-polygons-spec =
     same-length
     same-length-2
     returns-3
-    gives-nothing-requires
+    deck-count-requires
+    deck-there-requires
     put-none-requires
     same-length-3
     same-length-4

@@ -32,7 +32,7 @@ same-length : tie.Need-same-length
 same-length c = search (running, needs)
 
 returns-3 : tie.Need-returns-3
-returns-3 c = search (running, needs)
+returns-3 c = (search (running, needs), (search (running, needs), search (running, needs)))
 
 pub run-spec : {M : Type 1} → statement M
 run-spec =
