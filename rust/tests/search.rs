@@ -94,7 +94,7 @@ struct Found {
 /// Section 5, and document 02, point 1: the blocked set comes first.
 fn search(plan: &ShipPlan, p: Point, deck: Option<u32>, blocked: &BlockedDecks) -> Found {
     let free = (0..plan.decks.len() as u8).filter(|&d| !blocked.contains(d));
-    let open: Vec<u8> = free.filter(|&d| deck.is_none_or(|named| named == u32::from(d))).collect();
+    let open: Vec<u8> = free.filter(|&d| deck.unwrap_or(d.into()) == u32::from(d)).collect();
     let mut found = Found { step: 0, tried: 0, candidates: vec![] };
     for step in 0..plan.steps {
         found.step = step;
@@ -268,7 +268,7 @@ fn every_search() {
             let list: Vec<_> = if asked == Some(decks) { vec![] } else { found.iter().map(|c| c.polygon).collect() };
             let merged = merged(&plan, &list);
             assert_eq!(ship.candidate_polygons(x, y, asked, None, &blocked).unwrap(), merged, "{plan:?} {x} {y}");
-            unsearched += u32::from(deck.is_some_and(|d| blocked.contains(d as u8)));
+            unsearched += deck.iter().filter(|&&d| blocked.contains(d as u8)).count();
             several += u32::from(list.len() > 1);
             dropped += u32::from(merged.len() < list.len());
         }

@@ -6,7 +6,6 @@ use mathlib.Core.List.{List, [], _∷_, _++_}
 use native.Mathlib.Omega.{arith}
 use lib.ListN.{length, drop}
 use lib.Ieee.{binary32, toBits}
-use borrow.Author.Tests.{ne-eqb}
 use Rattle.geometry.specs.declared.Vec2.{Vec2}
 use Rattle.words.specs.Bytes.{allOnes, bytes4, joined, wordsOf, splice}
 use Rattle.answers.specs.declared.Check.{Check}
@@ -27,7 +26,7 @@ use Rattle.ship.specs.Questions.{firstNo}
 use Rattle.ship.proofs.Facts.{decks-range, steps-range}
 use Rattle.ship.proofs.ModelFacts.{decks-length}
 use Rattle.survey.specs.declared.Seat.{Seat}
-use Rattle.survey.specs.Wishes.{choiceOf, isBlocked}
+use Rattle.survey.specs.Wishes.{isBlocked}
 use Rattle.survey.specs.View.{Shown}
 use Rattle.survey.specs.Search.{seatRecord, candidates, foundIn}
 use Rattle.survey.proofs.NoneOpen.{none-open, found-nowhere}
@@ -47,10 +46,9 @@ first-written w c out a b d = rw (a, b, d)
 -- a blocked deck that is named is not searched
 pub blocked-finds-none : (file : List ℕ) (p : Vec2) (deck : ℕ) (blocked : List ℕ) → (deck ≡ allOnes → ⊥) → isBlocked blocked deck ≡ true
     → closestPoints file p deck blocked ≡ []
-unfolding closestPoints choiceOf
+unfolding closestPoints
 blocked-finds-none file p deck blocked named shut =
-    ap foundIn
-    (found-nowhere (seenBy file blocked (askedAt p deck)) (λ d l. rw (ne-eqb deck allOnes named) (none-open blocked deck shut d)) 0 (stepsIn file))
+    ap foundIn (found-nowhere (seenBy file blocked (askedAt p deck)) (λ d l. none-open blocked deck named shut d) 0 (stepsIn file))
 
 -- ---- the record of the seat that asks; u is whether it is unplaced
 module _ (file : List ℕ) (p : Vec2) (deck : ℕ) (blocked : List ℕ) {seat : Seat} {found : SeatRecord} {u : Bool} (is : seat ≡ askedAt p deck)

@@ -1,26 +1,20 @@
 -- The theorem of bytes on blocked decks: every seat run that is not refused leaves a seat that names one unplaced, with nothing tried.
 use Prim.Native.Nat.{ℕ, _<_}
-use mathlib.Core.Path.{_≡_, refl, ap, _∙_, subst⁻¹}
+use mathlib.Core.Path.{_≡_, refl, ap, _∙_}
 use mathlib.Core.Bool.{false}
 use mathlib.Core.List.{List}
-use lib.ListN.{length}
-use borrow.Author.Tests.{ne-eqb}
 use Rattle.words.specs.Bytes.{bytes4, joined}
 use Rattle.answers.specs.declared.Answer.{Answer}
-use Rattle.answers.specs.declared.Answer.the-variants.{Wrote}
-use Rattle.answers.specs.declared.Check.{Check}
-use Rattle.answers.specs.declared.Check.the-variants.{Passed, No}
-use Rattle.answers.specs.Replies.{replyCheck, answerFor, answerTo, outputTo, Replied}
+use Rattle.answers.specs.Replies.{answerTo, outputTo, Replied}
 use Rattle.records.specs.Record.{recordBytes, unplacedRecord}
 use Rattle.ship.specs.Decode.{decode}
-use Rattle.survey.specs.Wishes.{choiceOf}
 use Rattle.survey.specs.View.{View}
 use Rattle.survey.proofs.NoneOpen.{none-open, no-deck-open, nothing-tried}
 use Rattle.walking.specs.Sees.{view}
 use Rattle.seat_run.specs.SeatFile.{deckWord, seatAt}
 use Rattle.seat_run.specs.Run.{runReply}
 use Rattle.seat_run.specs.Blocked.{NamesBlocked, untriedBytes, BlockedUnplaced, BlockedUnplacedCode}
-use Rattle.seat_run.proofs.RunRecords.{run-length, result-slice}
+use Rattle.seat_run.proofs.RunRecords.{of-run, result-slice}
 
 untried : recordBytes (unplacedRecord 0) ≡ untriedBytes
 unfolding recordBytes joined bytes4
@@ -30,24 +24,19 @@ abbrev seen : List ℕ → List ℕ → List ℕ → ℕ → View
 seen file blocked seats i = view (decode file) blocked (seatAt seats i)
 
 closed : (file blocked seats : List ℕ) (i : ℕ) → NamesBlocked blocked seats i → (d : ℕ) → d < seen file blocked seats i .decks → seen file blocked seats i .opens d ≡ false
-unfolding seatAt choiceOf
-closed file blocked seats i names d l = rw (ne-eqb _ _ (names .0)) (none-open blocked (deckWord seats i) (names .1) d)
+unfolding seatAt
+closed file blocked seats i names d l = none-open blocked (deckWord seats i) (names .0) (names .1) d
 
 blocked-run : (file blocked seats out : List ℕ) → BlockedUnplaced file blocked seats (answerTo (runReply file blocked seats) out) (outputTo (runReply file blocked seats) out)
-unfolding answerTo
-blocked-run file blocked seats out = go (replyCheck (runReply file blocked seats) (length out)) refl
-  where
-    go : (c : Check) → replyCheck (runReply file blocked seats) (length out) ≡ c
-        → BlockedUnplaced file blocked seats (answerFor c (runReply file blocked seats .count)) (outputTo (runReply file blocked seats) out)
-    go (No number) e = tt
-    go Passed e =
-        subst⁻¹ (λ (n : ℕ). BlockedUnplaced file blocked seats (Wrote n) (outputTo (runReply file blocked seats) out)) (run-length (decode file) blocked seats) (
-          λ i h names. no-deck-open (seen file blocked seats i) (closed file blocked seats i names),
-          λ i h names.
-              result-slice file blocked seats out e i h
-              ∙ ap recordBytes (nothing-tried (seen file blocked seats i) (closed file blocked seats i names) (decode file .steps))
-              ∙ untried,
-        )
+blocked-run file blocked seats out =
+    of-run file blocked seats out (λ r. BlockedUnplaced file blocked seats r (outputTo (runReply file blocked seats) out)) (λ number. tt)
+    (λ e. (
+      λ i h names. no-deck-open (seen file blocked seats i) (closed file blocked seats i names),
+      λ i h names.
+          result-slice file blocked seats out e i h
+          ∙ ap recordBytes (nothing-tried (seen file blocked seats i) (closed file blocked seats i names) (decode file .steps))
+          ∙ untried,
+    ))
 
 pub blocked-unplaced : (file blocked seats out : List ℕ) {out′ : List ℕ} {r : Answer} → Replied (runReply file blocked seats) out out′ r → BlockedUnplaced file blocked seats r out′
 blocked-unplaced file blocked seats out h = rw (h .answer-is, h .output-is) (blocked-run file blocked seats out)

@@ -1,15 +1,14 @@
 -- The surveyor's theorem, of bytes: every seat run that is not refused meets the surveyor's statement, which leaves nothing free.
 use Prim.Native.Nat.{ℕ, zero, suc, _+_, _≤_, _<_}
 use native.Mathlib.Omega.{arith}
-use mathlib.Core.Path.{_≡_, refl, sym, ap, ap₂, _∙_, subst⁻¹}
+use mathlib.Core.Path.{_≡_, refl, sym, ap, ap₂, _∙_}
 use mathlib.Core.List.{List, [], _∷_}
 use lib.ListN.{length}
 use Rattle.words.specs.Rows.{rows}
 use Rattle.answers.specs.declared.Answer.{Answer}
 use Rattle.answers.specs.declared.Answer.the-variants.{Wrote}
-use Rattle.answers.specs.declared.Check.{Check}
-use Rattle.answers.specs.declared.Check.the-variants.{Passed, No}
-use Rattle.answers.specs.Replies.{replyCheck, answerFor, answerTo, outputTo, Replied}
+use Rattle.answers.specs.declared.Check.the-variants.{Passed}
+use Rattle.answers.specs.Replies.{replyCheck, answerTo, outputTo, Replied}
 use Rattle.answers.proofs.Replying.{check-passed, passed-check, answer-passed, output-length}
 use Rattle.records.specs.declared.SeatRecord.{SeatRecord}
 use Rattle.records.specs.Record.{recordBytes}
@@ -31,7 +30,7 @@ use Rattle.seat_run.specs.Survey.{Each, Survey, Kept, Surveyed, Surveyed
 use Rattle.seat_run.proofs.SeatReads.{seat-floats}
 use Rattle.seat_run.proofs.SeatAsks.{RunPassed, run-yes, run-passed, seat-yes16}
 use Rattle.seat_run.proofs.SeatSurveys.{wish-within, seat-surveyed, seat-once}
-use Rattle.seat_run.proofs.RunRecords.{recordOfSeat, run-length, reply-long, run-room, result-records, result-record, result-slice}
+use Rattle.seat_run.proofs.RunRecords.{recordOfSeat, run-length, reply-long, of-run, run-room, result-records, result-record, result-slice}
 
 -- ---- two lists, element by element
 module _ {A B : Type 0} (R : A → B → Type 0) (f : ℕ → A) where
@@ -120,21 +119,16 @@ module _ (file blocked seats out : List ℕ) (passed : replyCheck (runReply file
 
 -- ---- the theorem
 surveyed-run : (file blocked seats out : List ℕ) → Surveyed file blocked seats (answerTo (runReply file blocked seats) out) (outputTo (runReply file blocked seats) out)
-unfolding answerTo
-surveyed-run file blocked seats out = go (replyCheck (runReply file blocked seats) (length out)) refl
-  where
-    go : (c : Check) → replyCheck (runReply file blocked seats) (length out) ≡ c
-        → Surveyed file blocked seats (answerFor c (runReply file blocked seats .count)) (outputTo (runReply file blocked seats) out)
-    go (No number) e = tt
-    go Passed e =
-        let y = run-yes file blocked seats (passed-check (runReply file blocked seats) (length out) e .0) in
-        let long = output-length (runReply file blocked seats) out in
-        subst⁻¹ (λ (n : ℕ). Surveyed file blocked seats (Wrote n) (outputTo (runReply file blocked seats) out)) (run-length (decode file) blocked seats) (
-          rw (result-records file blocked seats out e) (survey-run file blocked seats y),
-          λ S more most out′ room′.
-              let l : length out ≤ length out′ = omega arith in
-              (counted file blocked seats out e S more most out′ l, kept file blocked seats out e S more most out′ l),
-        )
+surveyed-run file blocked seats out =
+    of-run file blocked seats out (λ r. Surveyed file blocked seats r (outputTo (runReply file blocked seats) out)) (λ number. tt)
+    (λ e.
+    let y = run-yes file blocked seats (passed-check (runReply file blocked seats) (length out) e .0) in
+    let long = output-length (runReply file blocked seats) out in (
+      rw (result-records file blocked seats out e) (survey-run file blocked seats y),
+      λ S more most out′ room′.
+          let l : length out ≤ length out′ = omega arith in
+          (counted file blocked seats out e S more most out′ l, kept file blocked seats out e S more most out′ l),
+    ))
 
 pub surveyed : (file blocked seats out : List ℕ) {out′ : List ℕ} {r : Answer} → Replied (runReply file blocked seats) out out′ r → Surveyed file blocked seats r out′
 surveyed file blocked seats out h = rw (h .answer-is, h .output-is) (surveyed-run file blocked seats out)

@@ -6,25 +6,25 @@ use mathlib.Core.List.{List, []}
 use native.Mathlib.Nat.{zero-mul}
 use native.Mathlib.Omega.{arith}
 use lib.Dec.{eqb}
-use borrow.Author.Tests.{eqb-true}
+use borrow.Author.Tests.{eqb-true, ne-eqb}
+use Rattle.words.specs.Bytes.{allOnes}
 use Rattle.words.specs.Rows.{collect, sumOf}
 use Rattle.records.specs.Record.{unplacedRecord}
-use Rattle.survey.specs.declared.DeckChoice.the-variants.{Named}
-use Rattle.survey.specs.Wishes.{isBlocked, isOpen}
+use Rattle.survey.specs.Wishes.{choiceOf, isBlocked, isOpen}
 use Rattle.survey.specs.View.{View}
 use Rattle.survey.specs.Search.{turnGives, candidates, Nowhere, firstStep, recordOf, seatRecord}
 use Rattle.survey.specs.Survey.{openDecks}
 use Rattle.survey.proofs.Steps.{tried-before-is}
 
 -- the named deck is blocked, and the others are not named
-pub none-open : (blocked : List ℕ) (n : ℕ) → isBlocked blocked n ≡ true → (d : ℕ) → isOpen blocked (Named n) d ≡ false
-unfolding isOpen
-none-open blocked n shut d = go (eqb n d) refl (isBlocked blocked d) refl
+pub none-open : (blocked : List ℕ) (deck : ℕ) → (deck ≡ allOnes → ⊥) → isBlocked blocked deck ≡ true → (d : ℕ) → isOpen blocked (choiceOf deck) d ≡ false
+unfolding isOpen choiceOf
+none-open blocked deck named shut d = rw (ne-eqb deck allOnes named) (go (eqb deck d) refl (isBlocked blocked d) refl)
   where
-    go : (same : Bool) → eqb n d ≡ same → (b : Bool) → isBlocked blocked d ≡ b → (not b && same) ≡ false
+    go : (same : Bool) → eqb deck d ≡ same → (b : Bool) → isBlocked blocked d ≡ b → (not b && same) ≡ false
     go same e true f = refl
     go false e false f = refl
-    go true e false f = sym shut ∙ ap (isBlocked blocked) (eqb-true n d e) ∙ f
+    go true e false f = sym shut ∙ ap (isBlocked blocked) (eqb-true deck d e) ∙ f
 
 module _ (v : View) (none : (d : ℕ) → d < v .decks → v .opens d ≡ false) where
   none-added : (f : ℕ → ℕ) (d n : ℕ) → d + n ≤ v .decks → sumOf (v .opens) f d n ≡ 0
