@@ -12,7 +12,7 @@ use Rattle.words.specs.Bytes.{allOnes}
 use Rattle.answers.specs.declared.Check.{Check}
 use Rattle.answers.specs.declared.Check.the-variants.{Passed, No}
 use Rattle.answers.specs.Checks.{ask, after, checkEach}
-use Rattle.answers.specs.Questions.{question14, question17, question20}
+use Rattle.answers.specs.Questions.{question14, question17, looksAt, question20}
 
 -- ---- a question in its chain
 pub ask-no : (n : ℕ) (b : Bool) (later : Check) → b ≡ false → No n ≡ ask b n later
@@ -119,6 +119,18 @@ module _ (decks : ℕ) {deck : ℕ} where
   named-deck n = simp (ne-eqb _ _ n)
 
 pub ruleset named = (any-deck, named-deck)
+
+-- ---- the decks that a search looks at
+module _ {deck : ℕ} (d : ℕ) where
+  pub looks-any : deck ≡ allOnes → eqb deck allOnes ≡ looksAt deck d
+  unfolding looksAt
+  looks-any e = simp (eq-eqb _ _ e)
+
+  pub looks-named : (deck ≡ allOnes → ⊥) → eqb deck d ≡ looksAt deck d
+  unfolding looksAt
+  looks-named n = simp (ne-eqb _ _ n)
+
+pub ruleset looks = (looks-any, looks-named)
 
 -- ---- 20
 module _ (bytes room : ℕ) where

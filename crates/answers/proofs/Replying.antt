@@ -38,6 +38,16 @@ module _ (reply : Reply) (room : ℕ) where
       let b = asked-yes (question20 (length (reply .bytes)) room) 20 Passed (a .1) in
       (a .0, q20-fits (length (reply .bytes)) room (b .0))
 
+-- what holds of every answer: the call was refused, or it passed and wrote its entries
+pub of-reply : (reply : Reply) (out : List ℕ) (P : Answer → Type 0) → ((number : ℕ) → P (Refused number))
+    → (replyCheck reply (length out) ≡ Passed → P (Wrote (reply .count))) → P (answerTo reply out)
+unfolding answerTo
+of-reply reply out P refused wrote = go (replyCheck reply (length out)) refl
+  where
+    go : (c : Check) → replyCheck reply (length out) ≡ c → P (answerFor c (reply .count))
+    go (No number) e = refused number
+    go Passed e = wrote e
+
 -- ---- the three ways; r is what the call's own check returned
 module _ {reply : Reply} {out : List ℕ} {r : Check} (asked : r ≡ reply .check) where
   pub replied-refused : {number : ℕ} → r ≡ No number → Replied reply out out (Refused number)

@@ -14,6 +14,10 @@ question14 blocked = eqb (length blocked) 32
 unfoldable pub question17 : ℕ → ℕ → Bool
 question17 decks deck = eqb deck allOnes || ltb deck decks
 
+-- a search that names this deck, or none, looks at deck d: the named one alone, or all
+unfoldable pub looksAt : ℕ → ℕ → Bool
+looksAt deck d = eqb deck allOnes || eqb deck d
+
 -- 20 Output at least as long as this very answer?
 unfoldable pub question20 : ℕ → ℕ → Bool
 question20 bytes room = leb bytes room

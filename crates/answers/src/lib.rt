@@ -1,7 +1,7 @@
 // How a call asks, refuses and replies (document 01, 'The questions, in order'). Nothing here knows of files or seats.
 ghost use mathlib.Core.Path.{_≡_};
 ghost use Prim.Native.Nat.{_*_, _<_};
-ghost use Rattle.answers.specs.Questions.{question14, question17, question20};
+ghost use Rattle.answers.specs.Questions.{question14, question17, looksAt, question20};
 ghost use Rattle.answers.specs.Replies.{codeOf, AnswerFits};
 
 // All questions passed, or the number of the first that did not.
@@ -28,6 +28,13 @@ pub fn deck_there(decks: usize, deck: u32) -> bool
     ensures { λ r. ⌜ r ≡ question17 decks deck ⌝ }
 {
     deck == 0xFFFF_FFFF || (deck as usize) < decks
+}
+
+// Whether a search that names this deck, or none, looks at deck d.
+pub fn looks_at(deck: u32, d: usize) -> bool
+    ensures { λ r. ⌜ r ≡ looksAt deck d ⌝ }
+{
+    deck == 0xFFFF_FFFF || deck as usize == d
 }
 
 // Question 20 for `count` entries of `size` bytes. Their product may not fit a number, so the room is divided.

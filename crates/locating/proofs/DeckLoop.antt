@@ -18,7 +18,7 @@ use Rattle.words.proofs.Writing.{Rest, rest-all, rest-more-front, rest-front, l
 use Rattle.answers.specs.declared.Check.{Check}
 use Rattle.answers.specs.declared.Check.the-variants.{Passed, No}
 use Rattle.answers.specs.declared.Answer.the-variants.{Refused, Wrote}
-use Rattle.answers.specs.Questions.{question20}
+use Rattle.answers.specs.Questions.{looksAt, question20}
 use Rattle.answers.specs.Replies.{Replied, codeOf}
 use Rattle.answers.proofs.Asking.{both-passed}
 use Rattle.answers.proofs.Replying.{replied-refused, replied-short, replied-written, room-short, room-fits}
@@ -31,7 +31,7 @@ use Rattle.ship.specs.Questions.{firstNo}
 use Rattle.ship.proofs.Facts.{decks-range}
 use Rattle.locating.specs.declared.Location.{Location}
 use Rattle.locating.specs.declared.Location.the-variants.{Found, Refused as Location·Refused}
-use Rattle.locating.specs.Locating.{locationOf, locationCode, packedHit, hitOn, looksAt, pointLayer, pointLocation, pointCheck, layerReply}
+use Rattle.locating.specs.Locating.{locationOf, locationCode, packedHit, hitOn, pointLayer, pointLocation, pointCheck, layerReply}
 use Rattle.locating.proofs.Probing.{hit-polygon}
 
 -- what deck d gives, and the decks from e on

@@ -4,14 +4,11 @@ use mathlib.Core.Path.{_≡_, refl, sym, ap, _∙_}
 use mathlib.Core.Bool.{Bool, true, false, cond}
 use mathlib.Core.List.{List}
 use native.Mathlib.Omega.{arith}
-use lib.Dec.{eqb}
 use lib.ListN.{length}
 use lib.Ieee.{Float}
-use borrow.Author.Tests.{eq-eqb, ne-eqb}
 use Rattle.geometry.specs.declared.Vec2.{Vec2}
 use Rattle.geometry.specs.Plane.{subOf}
 use Rattle.ring.specs.Probe.{probeOf}
-use Rattle.words.specs.Bytes.{allOnes}
 use Rattle.answers.specs.declared.Check.{Check}
 use Rattle.answers.specs.declared.Check.the-variants.{Passed}
 use Rattle.answers.specs.Checks.{ask, after}
@@ -29,7 +26,7 @@ use Rattle.ship.proofs.Facts.{sound}
 use Rattle.ship.proofs.ModelFacts.{polygons-length, deck-of}
 use Rattle.search.specs.OnDeck.{passesAt, nextHit}
 use Rattle.calls.specs.Closest.{question16}
-use Rattle.locating.specs.Locating.{probeHit, hitOn, looksAt, pointCheck}
+use Rattle.locating.specs.Locating.{probeHit, hitOn, pointCheck}
 
 -- ---- `probe_hit`: the probes before i missed
 abbrev passesAtProbe : Deck → Vec2 → Float → ℕ → ℕ → Bool
@@ -105,18 +102,6 @@ module _ (file : List ℕ) (passed : firstNo file ≡ Passed) {d : ℕ} (there :
       omega (arith, sample-below _ _ 0 9 (sym is ∙ e))
 
 pub ruleset on-deck = (hit-deck, hit-is)
-
--- ---- `looks_at`
-module _ {deck : ℕ} (d : ℕ) where
-  pub looks-any : deck ≡ allOnes → eqb deck allOnes ≡ looksAt deck d
-  unfolding looksAt
-  looks-any e = simp (eq-eqb _ _ e)
-
-  pub looks-named : (deck ≡ allOnes → ⊥) → eqb deck d ≡ looksAt deck d
-  unfolding looksAt
-  looks-named n = simp (ne-eqb _ _ n)
-
-pub ruleset looks = (looks-any, looks-named)
 
 -- ---- `point_check`
 pub point-is : (file : List ℕ) (p : Vec2) {v : Check} → v ≡ after (firstNo file) (ask (question16 p) 16 Passed) → v ≡ pointCheck file p

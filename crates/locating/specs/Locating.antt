@@ -1,8 +1,6 @@
 -- Document 01, section 8: `get_point_location` and `get_point_layer`, their questions and their entries.
 use Prim.Native.Nat.{ℕ}
-use mathlib.Core.Bool.{Bool, _||_}
 use mathlib.Core.List.{List, [], _∷_}
-use lib.Dec.{eqb}
 use lib.IntN.{ℤ, pos, negℤ}
 use lib.ListN.{length, getD}
 use lib.Ieee.{Float}
@@ -15,6 +13,7 @@ use Rattle.answers.specs.declared.Check.{Check}
 use Rattle.answers.specs.declared.Check.the-variants.{Passed, No}
 use Rattle.answers.specs.declared.Answer.{Answer}
 use Rattle.answers.specs.Checks.{ask, after}
+use Rattle.answers.specs.Questions.{looksAt}
 use Rattle.answers.specs.Replies.{Reply, replyOf, Replied, RepliedCode}
 use Rattle.hits.specs.declared.Hit.{Hit}
 use Rattle.hits.specs.declared.Hit.the-variants.{At, Missed}
@@ -42,11 +41,7 @@ abbrev pub packedHit : ℕ → Hit → List ℕ
 packedHit d (At i k) = packedOf d k ∷ []
 packedHit d Missed = []
 
--- the named deck alone, or all; 'an absent deck gives nothing'
-unfoldable pub looksAt : ℕ → ℕ → Bool
-looksAt deck d = eqb deck allOnes || eqb deck d
-
--- 'one per deck', 'decks rising'
+-- 'one per deck', 'decks rising': of the named deck alone, or all; 'an absent deck gives nothing'
 unfoldable pub pointLayer : List ℕ → Vec2 → ℕ → List ℕ
 pointLayer file p deck = collect (looksAt deck) (λ d. packedHit d (hitOn (decode file) p d)) 0 (decksIn file)
 

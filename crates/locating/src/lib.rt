@@ -7,7 +7,7 @@ ghost use Rattle.answers.specs.declared.Check.the-variants.{Passed};
 ghost use Rattle.ship.specs.Layout.{decksIn};
 ghost use Rattle.ship.specs.Decode.{decode, deckAt};
 ghost use Rattle.ship.specs.Questions.{firstNo, DeckOfPassed};
-ghost use Rattle.locating.specs.Locating.{probeHit, hitOn, looksAt, pointLayer, pointLocation, pointCheck, locationOf, locationCode, LayerReplied};
+ghost use Rattle.locating.specs.Locating.{probeHit, hitOn, pointLayer, pointLocation, pointCheck, locationOf, locationCode, LayerReplied};
 use answers::Answer;
 use answers::Check;
 use geometry::Vec2;
@@ -48,12 +48,6 @@ fn hit_on(file: &[u8], p: Vec2, d: usize) -> Hit
     probe_hit(file, b, around, decks::reach(file))
 }
 
-fn looks_at(deck: u32, d: usize) -> bool
-    ensures { λ r. ⌜ r ≡ looksAt deck d ⌝ }
-{
-    deck == 0xFFFF_FFFF || deck as usize == d
-}
-
 // Questions 1 to 16 of a point.
 fn point_check(file: &[u8], p: Vec2) -> Check
     ensures { λ r. ⌜ r ≡ pointCheck (now (file .entry)) p ⌝ }
@@ -78,7 +72,7 @@ fn locate(file: &[u8], p: Vec2, deck: u32) -> u32
     'decks: while e < count {
         let d = e;
         e += 1;
-        if looks_at(deck, d) {
+        if answers::looks_at(deck, d) {
             if let Hit::At(_, polygon) = hit_on(file, p, d) {
                 return decks::packed(d, polygon);
             }
@@ -108,7 +102,7 @@ fn list_layers(file: &[u8], p: Vec2, deck: u32, list: &mut [u8]) -> usize
     'decks: while e < count {
         let d = e;
         e += 1;
-        if looks_at(deck, d) {
+        if answers::looks_at(deck, d) {
             if let Hit::At(_, polygon) = hit_on(file, p, d) {
                 words::put_u32(list, NUMBER_SIZE * n, decks::packed(d, polygon));
                 n += 1;

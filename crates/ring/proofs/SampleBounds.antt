@@ -1,4 +1,5 @@
--- Where samples and probes lie, for a reach of up to 1,000: a sample at most 15,000 from its centre in each component, and a probe at most 1,000.
+-- Where samples and probes lie, for a reach of up to 1,000: in each component, a sample along a direction of size k at most 15,000 * k from its
+-- centre, a ring sample 15,000, and a probe 1,000.
 use mathlib.Core.Bool.{false}
 use mathlib.Core.List.{List, []}
 use Prim.Native.Nat.{ℕ, _+_, _*_, _^_, _<_, _≤_}
@@ -11,7 +12,7 @@ use Rattle.geometry.specs.declared.Vec2.{Vec2}
 use Rattle.geometry.specs.Plane.{addOf, subOf}
 use Rattle.geometry.specs.Bounds.{Within, PointWithin}
 use Rattle.geometry.proofs.Bounds.{Held, held, by-test, add-within, sub-within, mul-within, div-within, ofInt-within}
-use Rattle.ring.specs.Sample.{pairNumber, directionA, directionB, fractionOf, along, sampleOf}
+use Rattle.ring.specs.Sample.{pairNumber, directionA, directionB, fractionOf, multiple, alongOf, ringDirection, sampleOf}
 use Rattle.ring.specs.Probe.{none, probes, probeOf}
 use Rattle.ring.proofs.Tests.{Tested, both, each}
 use Rattle.ring.proofs.Directions.{size}
@@ -19,41 +20,56 @@ use Rattle.ring.proofs.Directions.{size}
 sum-within : {k a b : ℕ} {p q : Vec2} → Held k → a + b ≤ k → PointWithin a p → PointWithin b q → PointWithin k (addOf p q)
 sum-within H h p q = record { x = add-within H h (p .x) (q .x); y = add-within H h (p .y) (q .y) }
 
+-- ---- along a direction
+-- binary32 holds the bounds that follow from a direction whose parts are at most k in size
+pub record Bounding (k : ℕ) : Type 0 where
+  pub once : Held (k * 1000)
+  pub all : Held (k * 15000)
+  pub sample : Held (2000000 + k * 15000)
+  pub place : Held (3000000 + k * 15000)
+
+module _ {k : ℕ} (B : Bounding k) {direction : Vec2} (d : PointWithin k direction) {reach : Float} (r : Within 1000 reach) {s : ℕ} (few : s < 16) where
+  multiple-within : {part : Float} → Within k part → Within (k * 15000) (multiple part reach s)
+  unfolding held
+  multiple-within p =
+      mul-within (B .all) (omega arith) (mul-within (B .once) (omega arith) p r) (ofInt-within (by-test 15 tt) (pos s) (omega arith))
+
+  pub along-within : {p : Vec2} → PointWithin 2000000 p → PointWithin (2000000 + k * 15000) (alongOf p direction reach s)
+  along-within w = sum-within (B .sample) (omega arith) w (record { x = multiple-within (d .x); y = multiple-within (d .y) })
+
+  -- section 5: a search is around p less the deck's offset, which is then added again
+  pub place-along : {p offset : Vec2} → PointWithin 1000000 p → PointWithin 1000000 offset
+      → PointWithin (3000000 + k * 15000) (addOf (alongOf (subOf p offset) direction reach s) offset)
+  unfolding held
+  place-along w o =
+      sum-within (B .place) (omega arith)
+      (along-within
+      (record {
+        x = sub-within (by-test 2000000 tt) (omega arith) (w .x) (o .x);
+        y = sub-within (by-test 2000000 tt) (omega arith) (w .y) (o .y);
+      })) o
+
+-- ---- ring samples
 fraction-within : (z : ℤ) → natAbs z ≤ 2 ^ 24 → Within 1 (fractionOf z)
 unfolding held ofBits
 fraction-within z h =
     div-within (by-test 1 tt) false 1 (pos 24) (2 ^ 24) (omega arith) (omega arith) (omega arith)
     (ofInt-within (by-test (2 ^ 24) tt) z h)
 
-along-within : (z : ℤ) (reach : Float) (s : ℕ) → natAbs z ≤ 2 ^ 24 → Within 1000 reach → s < 16 → Within 15000 (along z reach s)
-unfolding held
-along-within z reach s h r k =
-    mul-within (by-test 15000 tt) (omega arith)
-    (mul-within (by-test 1000 tt) (omega arith) (fraction-within z h) r)
-    (ofInt-within (by-test 15 tt) (pos s) (omega arith))
+ring-within : (s i : ℕ) → PointWithin 1 (ringDirection s i)
+ring-within s i =
+    record {
+      x = fraction-within (directionA s i) (size (2 * pairNumber s i));
+      y = fraction-within (directionB s i) (size (2 * pairNumber s i + 1));
+    }
 
-pub sample-within : (p : Vec2) (reach : Float) (s i : ℕ) → s < 16 → i ≤ 10 * s → Within 1000 reach → PointWithin 2000000 p
-    → PointWithin 2015000 (sampleOf p reach s i)
+bounds-of-ring : Bounding 1
 unfolding held
-sample-within p reach s i h k r w =
-    sum-within (by-test 2015000 tt) (omega arith) w
-    (record {
-      x = along-within (directionA s i) reach s (size (2 * pairNumber s i)) r h;
-      y = along-within (directionB s i) reach s (size (2 * pairNumber s i + 1)) r h;
-    })
+bounds-of-ring = record { once = by-test 1000 tt; all = by-test 15000 tt; sample = by-test 2015000 tt; place = by-test 3015000 tt }
 
--- section 5: the sample is taken around p less the deck's offset, which is then added again
-pub place-within : (p offset : Vec2) (reach : Float) (s i : ℕ) → s < 16 → i ≤ 10 * s → Within 1000 reach
-    → PointWithin 1000000 p → PointWithin 1000000 offset
+pub place-within : (p offset : Vec2) (reach : Float) (s i : ℕ) → s < 16 → Within 1000 reach → PointWithin 1000000 p → PointWithin 1000000 offset
     → PointWithin 3015000 (addOf (sampleOf (subOf p offset) reach s i) offset)
-unfolding held
-place-within p offset reach s i h k r w o =
-    sum-within (by-test 3015000 tt) (omega arith)
-    (sample-within (subOf p offset) reach s i h k r
-    (record {
-      x = sub-within (by-test 2000000 tt) (omega arith) (w .x) (o .x);
-      y = sub-within (by-test 2000000 tt) (omega arith) (w .y) (o .y);
-    })) o
+place-within p offset reach s i h r w o = place-along bounds-of-ring (ring-within s i) r h w o
 
 -- ---- probes
 unit : (x : Float) → Tested (Within 1 x)

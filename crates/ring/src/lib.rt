@@ -1,10 +1,10 @@
-// Where the search looks: the ring samples of document 01, section 4, and the nine probes of section 8.
+// Where a search looks: along a direction, at the ring samples of document 01, section 4, and at the nine probes of section 8.
 ghost use mathlib.Core.Path.{_≡_};
 ghost use Prim.Native.Nat.{_<_, _≤_, _*_};
 ghost use lib.IntN.{pos};
 ghost use lib.ListN.{getD};
 ghost use Rattle.ring.specs.Table.{directions};
-ghost use Rattle.ring.specs.Sample.{fractionOf, sampleOf};
+ghost use Rattle.ring.specs.Sample.{fractionOf, alongOf, sampleOf};
 ghost use Rattle.ring.specs.Probe.{probeOf};
 use geometry::Vec2;
 
@@ -38,19 +38,29 @@ fn fraction(t: &[i32; 2432], k: usize) -> f32
     t[k] as f32 / 16777216.0
 }
 
+// s times the reach from p, along a direction.
+pub fn along(p: Vec2, direction: Vec2, reach: f32, s: usize) -> Vec2
+    requires { ⌜ s < 16 ⌝ }
+    ensures { λ r. ⌜ r ≡ alongOf p direction reach s ⌝ }
+{
+    let steps = s as f32;
+    Vec2 {
+        x: p.x + direction.x * reach * steps,
+        y: p.y + direction.y * reach * steps,
+    }
+}
+
 // Sample i of step s around p.
 pub fn sample(t: &[i32; 2432], p: Vec2, reach: f32, s: usize, i: usize) -> Vec2
     requires { ⌜ (now t ≡ directions) × ((s < 16) × (i ≤ 10 * s)) ⌝ }
     ensures { λ r. ⌜ r ≡ sampleOf p reach s i ⌝ }
 {
     let k = 2 * (5 * s * s - 4 * s + i);
-    let a = fraction(t, k);
-    let b = fraction(t, k + 1);
-    let steps = s as f32;
-    Vec2 {
-        x: p.x + a * reach * steps,
-        y: p.y + b * reach * steps,
-    }
+    let direction = Vec2 {
+        x: fraction(t, k),
+        y: fraction(t, k + 1),
+    };
+    along(p, direction, reach, s)
 }
 
 // Probe k around p.

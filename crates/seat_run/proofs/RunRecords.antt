@@ -8,10 +8,9 @@ use Rattle.words.specs.Rows.{rows}
 use Rattle.words.proofs.TableRows.{length-rows, getD-rows, map-rows}
 use Rattle.answers.specs.declared.Answer.{Answer}
 use Rattle.answers.specs.declared.Answer.the-variants.{Refused, Wrote}
-use Rattle.answers.specs.declared.Check.{Check}
-use Rattle.answers.specs.declared.Check.the-variants.{Passed, No}
-use Rattle.answers.specs.Replies.{replyCheck, answerFor, answerTo, outputTo}
-use Rattle.answers.proofs.Replying.{passed-check, output-passed}
+use Rattle.answers.specs.declared.Check.the-variants.{Passed}
+use Rattle.answers.specs.Replies.{replyCheck, answerTo, outputTo}
+use Rattle.answers.proofs.Replying.{of-reply, passed-check, output-passed}
 use Rattle.records.specs.declared.SeatRecord.{SeatRecord}
 use Rattle.records.specs.Record.{recordSize, recordBytes, recordsBytes, recordAt, recordsIn, recordSlice}
 use Rattle.records.proofs.ReadBack.{noRecord, records-length, slice-written, record-written, records-written}
@@ -43,12 +42,8 @@ reply-long file blocked seats = records-length (runRecords file blocked seats) �
 -- ---- what holds of the answer of every run: it was refused, or it passed and wrote a record a seat
 pub of-run : (file blocked seats out : List ℕ) (P : Answer → Type 0) → ((number : ℕ) → P (Refused number))
     → (replyCheck (runReply file blocked seats) (length out) ≡ Passed → P (Wrote (seatCount seats))) → P (answerTo (runReply file blocked seats) out)
-unfolding answerTo
-of-run file blocked seats out P refused wrote = go (replyCheck (runReply file blocked seats) (length out)) refl
-  where
-    go : (c : Check) → replyCheck (runReply file blocked seats) (length out) ≡ c → P (answerFor c (runReply file blocked seats .count))
-    go (No number) e = refused number
-    go Passed e = subst⁻¹ (λ (n : ℕ). P (Wrote n)) (run-length (decode file) blocked seats) (wrote e)
+of-run file blocked seats out P refused wrote =
+    of-reply (runReply file blocked seats) out P refused (λ e. subst⁻¹ (λ (n : ℕ). P (Wrote n)) (run-length (decode file) blocked seats) (wrote e))
 
 -- ---- the output of a run that is not refused
 module _ (file blocked seats out : List ℕ) (passed : replyCheck (runReply file blocked seats) (length out) ≡ Passed) where

@@ -12,13 +12,12 @@ use Rattle.answers.specs.Replies.{replyCheck, answerTo, outputTo, Replied}
 use Rattle.answers.proofs.Replying.{check-passed, passed-check, answer-passed, output-length}
 use Rattle.records.specs.declared.SeatRecord.{SeatRecord}
 use Rattle.records.specs.Record.{recordBytes}
-use Rattle.ship.specs.Layout.{decksIn, stepsIn}
+use Rattle.ship.specs.Layout.{stepsIn}
 use Rattle.ship.specs.Model.{Ship, withSteps}
 use Rattle.ship.specs.Decode.{decode, withStepsBytes}
 use Rattle.ship.specs.Questions.{firstNo}
 use Rattle.ship.proofs.Facts.{steps-range}
-use Rattle.ship.proofs.ModelFacts.{decks-length}
-use Rattle.ship.proofs.RaisedSteps.{raised}
+use Rattle.ship.proofs.RaisedSteps.{raised, raised-decks}
 use Rattle.survey.specs.declared.Seat.{Seat}
 use Rattle.survey.specs.Search.{seatRecord}
 use Rattle.survey.specs.Survey.{SeatSurvey}
@@ -89,13 +88,10 @@ module _ (file blocked seats out : List ℕ) (passed : replyCheck (runReply file
   raised-file : (firstNo (withStepsBytes file S) ≡ Passed) × (decode (withStepsBytes file S) ≡ withSteps (decode file) S)
   raised-file = raised file S (asked .file-passed) (omega (arith, steps-range file (asked .file-passed) .0)) most
 
-  raised-decks : decksIn (withStepsBytes file S) ≡ decksIn file
-  raised-decks = sym (decks-length (withStepsBytes file S)) ∙ ap (λ (ship : Ship). length (ship .decks)) (raised-file .1) ∙ decks-length file
-
   raised-run : replyCheck (runReply (withStepsBytes file S) blocked seats) (length out′) ≡ Passed
   raised-run =
       check-passed (runReply (withStepsBytes file S) blocked seats) (length out′)
-      (run-passed (withStepsBytes file S) blocked seats (record { file-passed = raised-file .0; yes14 = asked .yes14; seats-passed = rw raised-decks (asked .seats-passed) }))
+      (run-passed (withStepsBytes file S) blocked seats (record { file-passed = raised-file .0; yes14 = asked .yes14; seats-passed = rw (raised-decks file S (asked .file-passed)) (asked .seats-passed) }))
       (omega (arith, reply-long (withStepsBytes file S) blocked seats, run-room file blocked seats out passed))
 
   raised-record : (i : ℕ) → recordOfSeat (decode (withStepsBytes file S)) blocked seats i ≡ seatRecord (view (decode file) blocked (seatAt seats i)) S

@@ -113,7 +113,7 @@ module _ {file : List ℕ} {c : Candidate} (passed : firstNo file ≡ Passed) (o
   place-small : PointWithin 3015000 (shownBy file p .place c)
   unfolding shownFrom placeOf sampleOn
   place-small =
-      place-within p (deckOf (decode file) (c .deck) .offset) (decode file .reach) (c .step) (c .sample) (on .turn .step) (on .sample)
+      place-within p (deckOf (decode file) (c .deck) .offset) (decode file .reach) (c .step) (c .sample) (on .turn .step)
       (decode-reach file passed) within (rw here-is (offset-within deck))
 
   pub candidate-within : CandidateWithin c (shownBy file p .place c) (shownBy file p .height c)

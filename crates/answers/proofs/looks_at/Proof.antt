@@ -1,8 +1,8 @@
 -- `looks_at` meets its contract.
 use borrow.Author.Needs.{needs}
-use Rattle.locating.proofs.Probing.{looks}
-use Rattle.locating.proofs.looks_at.Statement.{statement}
-use Rattle.locating.proofs.looks_at.Tie as tie
+use Rattle.answers.proofs.Asking.{looks}
+use Rattle.answers.proofs.looks_at.Statement.{statement}
+use Rattle.answers.proofs.looks_at.Tie as tie
 
 returns : tie.Need-returns
 returns c = search (looks, needs)
