@@ -118,6 +118,8 @@ def layers():
         + replaced(item(text, "pub(crate) fn get_closest_points_inner("), *DIRECTION)
         + "#[inline(always)]\n"
         + replaced(item(text, "pub(crate) fn get_closest_point_inner("), *DIRECTION)
+        + "#[inline(always)]\n"
+        + item(text, "pub(crate) fn get_closest_point_towards_inner(")
         + item(text, "pub fn bake_islands_detection(")
         + item(text, "pub(crate) fn get_point_location(")
         + push
@@ -155,6 +157,7 @@ def mesh():
         + item(lib, "pub fn get_closest_point_on_layers(")
         + item(lib, "pub fn get_closest_points_on_layers_at_height(")
         + item(lib, "pub fn get_closest_points_on_layers(")
+        + item(lib, "pub fn get_closest_point_towards(")
         + plain_vectors(item(lib, "pub(crate) fn candidate_polygons("))
         + plain_vectors(item(lib, "fn merge_touching_readings("))
         + item(lib, "fn share_an_edge(")

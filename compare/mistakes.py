@@ -22,6 +22,8 @@ BOX = ("helpers.rs", "in_bounding_box")
 POLYGON = ("layers.rs", "point_in_polygon")
 CLOSEST = ("mesh.rs", "get_closest_points_on_layers")
 AT_HEIGHT = ("mesh.rs", "get_closest_points_on_layers_at_height")
+TOWARDS = ("mesh.rs", "get_closest_point_towards")
+TOWARDS_SAMPLE = ("layers.rs", "get_closest_point_towards_inner")
 CANDIDATES = ("mesh.rs", "candidate_polygons")
 HEIGHT = ("mesh.rs", "height")
 MERGE = ("mesh.rs", "merge_touching_readings")
@@ -117,6 +119,40 @@ SEARCHES = [
     ),
 ]
 
+DIRECTION = "-(point.pos - towards).normalize()"
+
+
+def in_direction(name, wrong):
+    """Of v, the point less the one to go towards."""
+    return (name, [instead(TOWARDS, DIRECTION, "{ let v = point.pos - towards; %s }" % wrong)])
+
+
+DECKS = "self.layers.iter().enumerate()"
+DECK_BY_DECK = "(0..self.layers.len()).find_map(|d| self.get_closest_point_towards(Coords::on_layer(point.pos, d as u8), towards))"
+
+TOWARDS_A_POINT = [
+    in_direction("a direction that is not turned round", "v.normalize()"),
+    in_direction("a direction without 1/length", "-v"),
+    in_direction("a direction divided by the length", "let l = v.dot(v).sqrt(); Vec2 { x: -(v.x / l), y: -(v.y / l) }"),
+    in_direction(
+        "a length in double precision",
+        "-(v * (1.0 / (v.x as f64 * v.x as f64 + v.y as f64 * v.y as f64).sqrt()) as f32)",
+    ),
+    ("towards a point, without step 0", [before(TOWARDS_SAMPLE, "let point = point + ", "if ON && step == 0 { return None; }")]),
+    (
+        "towards a point, a sample multiplied right to left",
+        [instead(TOWARDS_SAMPLE, "direction * delta * step as f32", "direction * (delta * step as f32)")],
+    ),
+    (
+        "towards a point, the decks of a step from the highest down",
+        [(TOWARDS, DECKS, "{ let mut all: Vec<_> = %s.collect(); if ON { all.reverse(); } all }" % DECKS)],
+    ),
+    (
+        "towards a point, a deck with all its steps before the next",
+        [before(TOWARDS, "if let Some(layer_index) = point.layer {", "if ON && point.layer.is_none() { return %s; }" % DECK_BY_DECK)],
+    ),
+]
+
 NEARER = "acc\n                    .map(|(_, closest_height)|"
 
 
@@ -202,4 +238,4 @@ RECORDS = [
     ("the last of the samples at a place", [instead(HIT, FIRST, FIRST.replace(".find", ".rev().find"))]),
 ]
 
-MISTAKES = GEOMETRY + SEARCHES + HEIGHTS + OTHER_CALLS + RECORDS
+MISTAKES = GEOMETRY + SEARCHES + TOWARDS_A_POINT + HEIGHTS + OTHER_CALLS + RECORDS

@@ -11,7 +11,7 @@
  * What a call returns and leaves:
  * - Not negative: how many entries it wrote at the front of out (removal: how many bytes). Output past them is left as it was,
  *   and work is all zeros.
- * - Negative: minus the number, 1 to 20, of the first question that the input does not pass. Nothing lent is altered.
+ * - Negative: minus the number, 1 to 20 or 22, of the first question that the input does not pass. Nothing lent is altered.
  * - No memory is allocated and nothing is kept between calls, so calls may run in several threads. A call takes up to some 80 KiB
  *   of stack.
  *
@@ -63,6 +63,13 @@ int64_t seats_closest_points(const uint8_t *file, size_t file_len, float x, floa
 /* The first candidate, written as above. Returns 1, or 0 where there is none. */
 int64_t seats_closest_point(const uint8_t *file, size_t file_len, float x, float y, uint32_t deck, const uint8_t *blocked,
                             size_t blocked_len, uint8_t *out, size_t out_len);
+
+/* The first place on a deck on the way from a point towards another: a step of the search looks at one sample, a reach farther on
+ * than the step before, on each deck in rising order or on the named one alone. No deck is blocked.
+ * Writes the place as a candidate, SEATS_CANDIDATE_SIZE bytes, and returns 1; returns 0 where no step has one. Two points whose
+ * squared distance computes to 0 are refused with 22. */
+int64_t seats_closest_point_towards(const uint8_t *file, size_t file_len, float x, float y, float towards_x, float towards_y,
+                                    uint32_t deck, uint8_t *out, size_t out_len);
 
 /* The height of a polygon at a place (the deck's offset is not taken off).
  * Writes an f32, SEATS_HEIGHT_SIZE bytes, and returns 1; returns 0 where there is no height, and for SEATS_NO_POLYGON. */

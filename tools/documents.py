@@ -11,7 +11,12 @@ import sys
 import stored_cases
 
 ROOT = os.path.join(os.path.dirname(os.path.abspath(__file__)), "..")
-STATEMENTS = {"A": "crates/survey/specs/Survey.antt", "B": "crates/seat_run/specs/Survey.antt", "C": "crates/seat_run/specs/Blocked.antt"}
+STATEMENTS = {
+    "A": "crates/survey/specs/Survey.antt",
+    "B": "crates/seat_run/specs/Survey.antt",
+    "C": "crates/seat_run/specs/Blocked.antt",
+    "D": "crates/towards/specs/Statement.antt",
+}
 DOCUMENTS = ["README.md"] + ["docs/%s" % name for name in sorted(os.listdir(os.path.join(ROOT, "docs"))) if name.endswith(".md")]
 
 
@@ -22,7 +27,7 @@ def read(path):
 
 def statement_lines():
     """The surveyor's table: what it quotes and no line of the file is."""
-    rows = re.findall(r"^\| .* \| ([ABC]) \| `(.*)` \|$", read("docs/SURVEYOR.md"), re.M)
+    rows = re.findall(r"^\| .* \| ([A-Z]) \| `(.*)` \|$", read("docs/SURVEYOR.md"), re.M)
     lines = {letter: [line.strip() for line in read(path).split("\n")] for letter, path in STATEMENTS.items()}
     wrong = ["docs/SURVEYOR.md quotes '%s', which is no line of %s" % (quote, STATEMENTS[letter]) for letter, quote in rows if quote not in lines[letter]]
     return len(rows), wrong

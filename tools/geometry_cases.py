@@ -1,11 +1,12 @@
 #!/usr/bin/env python3
-"""geometry_cases.py write|check: cases of the geometry and the ring samples, with their answers.
+"""geometry_cases.py write|check: cases of the geometry, the ring samples and the square root, with their answers.
 
 write: writes crates/geometry_cases/stdin, the cases, and stdout, the answers.
 check: exits with 1 where one of the two files differs from what is computed here.
 
 The answers come from IEEE 754 and document 01, sections 1, 3, 4, 6 and 8: each operation is done on exact rationals and
-rounded once to binary32, to nearest and ties to even. No float of the machine and nothing of the Rattle code takes part.
+rounded once to binary32, to nearest and ties to even; the root, document 02, point 2, is found among all patterns. No float
+of the machine and nothing of the Rattle code takes part.
 """
 import os
 import random
@@ -224,9 +225,33 @@ def probe(p, reach, k):
     return [add(p[j], mul(nearest(str(PROBES[k][j])), reach)) for j in (0, 1)]
 
 
+# ---- document 02, point 2: the root, of patterns
+
+INFINITY = 0x7F800000
+
+
+def units(n):
+    """The size of a pattern's float in units of 2^-149."""
+    return int(of_bits(n)[1] * 2**149)
+
+
+def root(n):
+    """The pattern nearest to the root: the last whose square is at most the number, or the next where the midpoint is below the root."""
+    number, low, high = units(n) << 149, 0, INFINITY
+    while high - low > 1:
+        middle = (low + high) // 2
+        if units(middle) ** 2 <= number:
+            low = middle
+        else:
+            high = middle
+    midpoint = (units(low) + units(low + 1)) ** 2  # four times its square
+    up = midpoint < 4 * number or (midpoint == 4 * number and low % 2 == 1)
+    return low + 1 if up else low
+
+
 # ---- a case and its answer
 
-WORDS = {"S": 5, "P": 4, "E": 6, "B": 6, "G": 6, "T": 6, "H": 8, "M": 5, "A": 1, "N": 2, "X": 2, "D": 4, "C": 4}
+WORDS = {"S": 5, "P": 4, "E": 6, "B": 6, "G": 6, "T": 6, "H": 8, "M": 5, "A": 1, "R": 1, "N": 2, "X": 2, "D": 4, "C": 4}
 
 
 def spelled(x):
@@ -243,6 +268,8 @@ def result(letter, words, v):
         return [spelled(x) for x in probe(places[0], v[2], words[3])] if words[3] < 9 else None
     if letter == "M":
         return [spelled(mean(v[1 : 1 + words[0]]))] if 1 <= words[0] <= 4 else None
+    if letter == "R":
+        return ["%08x" % root(words[0])] if 0 < words[0] < INFINITY else None
     if letter == "H":
         h = height_along(*places[:3], v[6], v[7])
         return ["-" if h is None else spelled(h)]
@@ -463,6 +490,52 @@ def probe_cases():
     yield case("P", "0", "0", "1", 2**32 - 2**24)
 
 
+def near_midpoints():
+    """Patterns whose root is as close to a midpoint as there are. With q the whole root of digits * 2^k, k being 23 or 24, the
+    midpoint's square is q^2 + q + 1/4. So c of q^2 + q + c = digits * 2^k says how close; mod 2^k there are two q for each even c."""
+    for c in range(-40, 42, 2):
+        for k, fields in ((23, (1, 127, 253)), (24, (2, 128, 254))):
+            for q in (0, 1):
+                for _ in range(5):  # each turn doubles the digits that are right
+                    q = (q - (q * q + q + c) * pow(2 * q + 1, -1, 2**k)) % 2**k
+                if q < 2**23:
+                    q += 2**23
+                digits, rest = divmod(q * q + q + c, 2**k)
+                if rest == 0 and 2**23 <= digits < 2**24:
+                    for field in fields:
+                        yield field << 23 | digits - 2**23
+
+
+def root_cases():
+    for n in [0, 0x80000000, 0x80000001, 0xBF800000, INFINITY, 0xFF800000]:
+        yield case("R", n)
+    numbers = [to_bits(nearest(t)) for t in "1 2 3 4 0.5 8e12 2000000 0.0001".split()]
+    numbers += [to_bits((0, power(e))) for e in (-148, -140, -127, -126, 43, 127)]
+    numbers += [0x12345, 0x2AAAAA, 0x7FFFFF]
+    numbers += [to_bits(nearest(str(n * n))) for n in (3, 5, 255, 1000, 2047, 4093, 4095, 4096)]
+    for n in numbers:
+        for k in (-1, 0, 1):
+            yield case("R", n + k)
+    for n in [1, INFINITY - 2, INFINITY - 1]:
+        yield case("R", n)
+    for n in near_midpoints():
+        yield case("R", n)
+    draw = random.Random(1960).getrandbits
+    for length in range(2, 24):  # subnormals by their count of digits
+        for _ in range(12):
+            yield case("R", 1 << length - 1 | draw(length - 1))
+    for _ in range(150):  # squares
+        n = to_bits((0, (draw(12) | 1) ** 2 * power(2 * (draw(6) - 32))))
+        for k in (-1, 0, 1):
+            yield case("R", n + k)
+    for _ in range(150):  # squares of midpoints
+        n = to_bits(rounded(0, (2 * (draw(23) + 2**23) + 1) ** 2 * power(draw(7) - 112)))
+        for k in (-1, 0, 1):
+            yield case("R", n + k)
+    for _ in range(1570):
+        yield case("R", draw(31) % (INFINITY - 1) + 1)
+
+
 def bad_lines():
     good = case("D", "1", "2", "3", "4")
     yield "D 7FC00000" + good[10:]
@@ -517,7 +590,7 @@ def random_cases():
 def files():
     """What the two files hold."""
     groups = [side_cases, box_cases, segment_cases, polygon_cases, height_cases, mean_cases, number_cases]
-    groups += [product_cases, sample_cases, probe_cases, bad_lines, random_cases]
+    groups += [product_cases, sample_cases, probe_cases, bad_lines, random_cases, root_cases]
     lines = [line for group in groups for line in group()]
     texts = {"stdin": lines, "stdout": [answer(l) for l in lines]}
     return {name: "".join(l + "\n" for l in text).encode("ascii") for name, text in texts.items()}

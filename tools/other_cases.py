@@ -1,5 +1,5 @@
 #!/usr/bin/env python3
-"""other_cases.py write|check|list: cases of the calls of document 01, section 8, with their answers.
+"""other_cases.py write|check|list: cases of the calls of document 01, section 8, and document 02, point 2, with their answers.
 
 write: writes crates/other_cases/stdin, the cases, and stdout, the answers.
 check: exits with 1 where one of the two files differs from what is computed here.
@@ -7,9 +7,9 @@ list: prints the cases, in the order of their answers in stdout.
 
 The answers are worked out from document 01, section 8, over a ship's plan and not its file: locating by the nine probes, merging and
 islands by the closure of their relation, stitch points by pairs of vertices, and removal by a plan whose lists are filtered and
-whose file is written anew. The search and the arithmetic are those of tools/seats_cases.py. Of a ship the questions 14 and 16 to 20
-are asked here; of a damaged file the number that it is built to fail stands beside the case. Where a case is built to be refused,
-both are there and have to agree. Nothing of the Rattle code takes part.
+whose file is written anew; and from document 02, point 2, the place towards a point. The search and the arithmetic are those of
+tools/seats_cases.py. Of a ship the questions 14, 16 to 20 and 22 are asked here; of a damaged file the number that it is built to fail
+stands beside the case. Where a case is built to be refused, both are there and have to agree. Nothing of the Rattle code takes part.
 
 A place that is an argument is never a NaN, since no float can be made of a NaN's pattern there. The last line of stdout is `bad`, for
 a case that is cut short.
@@ -28,7 +28,7 @@ import stored_cases
 from seats_cases import ABOVE, BARE, CORNERS, INFINITY, MILLION, round_trip, value
 from ship_file import ALL_ONES, EXAMPLE_SHIP, SQUARE, bits, blocked, deck_blocks, put, u32
 
-MOST_BYTES = 260000  # they fit the program's array
+MOST_BYTES = 290000  # they fit the program's array
 MOST_LENT = 32768
 ANY = -1  # of a case that is drawn: whatever the questions say
 
@@ -142,6 +142,30 @@ def removed(ship, t=None):
     return Ship(*plan, **ship.header)
 
 
+# ---- document 02, point 2
+
+
+def direction(p, towards):
+    v = g.minus(p, towards)
+    length = g.of_bits(g.root(g.to_bits(g.dot(v, v))))
+    scale = g.div(g.nearest("1"), length)
+    return [g.neg(g.mul(c, scale)) for c in v]
+
+
+def place_towards(ship, p, towards, named):
+    """The first place, as an entry, of those there are: step by step, in a step deck by deck, and there polygon by polygon."""
+    way = direction(p, towards)
+    for s in range(ship.steps):
+        for d in range(len(ship.decks)) if named == ALL_ONES else [named]:
+            offset = ship.decks[d].offset
+            around = g.minus(p, offset)
+            q = [g.add(around[c], g.mul(g.mul(way[c], ship.reach), g.nearest(str(s)))) for c in (0, 1)]
+            for k, polygon in enumerate(ship.decks[d].polygons):
+                if seats.passes(polygon, q):
+                    return [[packed(d, k)] + [g.to_bits(g.add(q[c], offset[c])) for c in (0, 1)]]
+    return []
+
+
 def words(file):
     return [[word] for word in struct.unpack("<%dI" % (len(file) // 4), file)]
 
@@ -157,6 +181,12 @@ def sized(*floats):
 def there(ship, d):
     """Question 17, of a call that has to name a deck."""
     return d < len(ship.plan)
+
+
+def apart(p, towards):
+    """Question 22."""
+    v = g.minus(p, towards)
+    return not g.equal(g.dot(v, v), g.ZERO)
 
 
 def in_range(ship, d):
@@ -272,7 +302,19 @@ def removal_to(name, ship, t=0, no=None, room=None):
     return stored("T", "removal to %d, %s" % (t, name), ship, no, [], lambda: words(removed(ship, t).file), unit=4, number=t, room=room)
 
 
-CALLS = [location, layer, polygons, islands, stitches, removal, removal_to]
+def towards(name, ship, x=1.0, y=1.0, to=(3.0, 1.0), deck=ALL_ONES, no=None, room=None):
+    """The point to go towards stands in the blocked set's place."""
+    questions = [(16, lambda: sized(x, y) and sized(*to)), (17, lambda: deck == ALL_ONES or there(ship, deck))]
+    questions += [(22, lambda: apart(place(x, y), place(*to)))]
+
+    def answer():
+        return place_towards(ship, place(x, y), place(*to), deck)
+
+    end = u32(bits(to[0]), bits(to[1]))
+    return stored("D", "towards, " + name, ship, no, questions, answer, p=(x, y), deck=deck, closed=end, room=room)
+
+
+CALLS = [location, layer, polygons, islands, stitches, removal, removal_to, towards]
 
 # ---- decks and ships
 
@@ -725,6 +767,107 @@ def removal_output_cases():
     yield removal_to("nothing goes, output one byte short", two, 9, no=20, room=full - 1)
 
 
+# ---- towards a point
+
+LINE = Ship(BARE, steps=4)  # a reach of 0.5, and the square from (0, 0) to (4, 4)
+
+
+def step_cases():
+    yield towards("step 0", LINE, 1.0, 1.0, (9.0, 7.0))
+    yield towards("step 0 on an edge", LINE, 0.0, 2.0, (-5.0, 2.0))
+    for name, x, y, to in [
+        ("to the right", -0.5, 2.0, (1.5, 2.0)),
+        ("to the left", 4.5, 2.0, (0.5, 2.0)),
+        ("up", 2.0, -0.5, (2.0, 0.5)),
+        ("down", 2.0, 4.5, (2.0, -3.5)),
+    ]:
+        yield towards("step 1, " + name, LINE, x, y, to)
+    yield towards("away from the square", LINE, -0.5, 2.0, (-2.5, 2.0))
+    yield towards("step 3, on the edge", LINE, -1.5, 2.0, (0.5, 2.0))
+    yield towards("the same, S 3", Ship(BARE, steps=3), -1.5, 2.0, (0.5, 2.0))
+    yield towards("past the point", LINE, -1.25, 2.0, (-1.0, 2.0))
+    yield towards("over a corner, between two steps", Ship(BARE, reach=1.0, steps=9), -0.5, 0.25, (0.25, -0.5))
+    for x, y, to in [(-0.3, -0.4, (0.0, 0.0)), (-1.0, 0.3, (2.1, 1.7)), (5.0, 5.1, (1.1, 0.7)), (0.1, -0.7, (0.2, 3.3))]:
+        yield towards("a length that is rounded, (%s, %s)" % (x, y), Ship(BARE, reach=0.7, steps=9), x, y, to)
+    yield towards("S 16, step 15", Ship(BARE, steps=16), -7.5, 1.0, (0.5, 1.0))
+
+
+def length_cases():
+    """Next floats far out, and points whose squared distance is subnormal, the least float above 0, or 0."""
+    end = seats.deck("999997 999997 1000000 999997 1000000 1000000 999997 1000000")
+    yield towards("next floats far out", Ship(end, reach=0.7, steps=9), MILLION, 999996.0, (MILLION, 999996.0625))
+    right = Ship(seats.deck("0.25 -2 9 -2 9 2 0.25 2"), steps=6)
+    half = 2.0**-75  # its square is half of the least float: a tie, to 0
+    above = struct.unpack("<f", u32(bits(half) + 1))[0]
+    for x in (1e-18, 1e-20, 1e-22, 3e-23, above):
+        yield towards("points apart by %s" % x, right, 0.0, 0.0, (x, 0.0))
+    for name, p, to in [
+        ("a part whose square is 0", (0.0, 0.0), (1e-22, half)),
+        ("both parts just above", (0.0, 0.0), (above, -above)),
+        ("on both sides of 0", (-2e-23, 3e-23), (2e-23, -1e-23)),
+    ]:
+        yield towards("nearly equal points, " + name, right, *p, to)
+    for name, p, to in [
+        ("apart by 2^-75", (0.0, 0.0), (half, 0.0)),
+        ("apart by 2^-75 in both parts", (0.0, 0.0), (-half, half)),
+        ("equal", (1.0, 1.0), (1.0, 1.0)),
+        ("0 and -0", (0.0, -0.0), (-0.0, 0.0)),
+        ("equal, far out", (MILLION, -MILLION), (MILLION, -MILLION)),
+    ]:
+        yield towards("points " + name, right, *p, to, no=22)
+
+
+def reach_cases():
+    for reach in (0.0, -0.0):
+        for x, y in ((-0.0, -0.0), (-0.5, 2.0)):
+            yield towards("reach %s from (%s, %s)" % (reach, x, y), Ship(BARE, reach=reach, steps=3), x, y, (3.5, 2.5))
+
+
+def towards_deck_cases():
+    two = Ship(BARE, dict(BARE, offset=(2.0, 0.0)))
+    yield towards("both decks in step 1: the lower", two, 3.0, -0.5, (3.0, 0.5))
+    yield towards("deck 1 in step 0, deck 0 in step 1", two, 4.5, 1.0, (2.5, 1.0))
+    yield towards("deck 1 alone", two, 6.5, 1.0, (4.5, 1.0))
+    for d in (0, 1):
+        yield towards("deck %d named, both are there" % d, two, 3.0, -0.5, (3.0, 0.5), deck=d)
+        yield towards("deck %d named, only deck 1 is there" % d, two, 6.5, 1.0, (4.5, 1.0), deck=d)
+    moved = Ship(dict(BARE, offset=(0.1, -0.3)), dict(BARE, offset=(-900000.0, 0.7)), reach=0.3, steps=5)
+    for x, y, to in [(0.0, 0.0, (1.0, 1.0)), (-0.7, 1.1, (0.9, 1.7)), (-900000.3, 1.0, (0.0, 0.0))]:
+        yield towards("offsets that round, (%s, %s)" % (x, y), moved, x, y, to)
+    yield towards("the point to go towards is not moved", Ship(dict(BARE, offset=(10.0, 0.0))), 9.5, 2.0, (11.5, 2.0))
+
+
+def towards_polygon_cases():
+    yield towards("three polygons at the sample: the lowest", Ship(stack(3)), -0.5, 2.0, (1.5, 2.0))
+    yield towards("the second polygon in step 1, the first in step 2", Ship(boxes([(1.0, 0.0), (0.5, 0.0)], 0.125), steps=4), 0.0, 0.0, (1.0, 0.0))
+    yield towards("a polygon of two vertices", Ship(seats.deck("0 0 4 0"), steps=4), 9.0, -1.0, (9.0, 1.0))
+
+
+def towards_question_cases():
+    for x in (-ABOVE, INFINITY):
+        yield towards("x of %s" % x, EXAMPLE, x, 1.0, no=16)
+        yield towards("y of %s" % x, EXAMPLE, 1.0, x, no=16)
+        yield towards("towards an x of %s" % x, EXAMPLE, to=(x, 1.0), no=16)
+        yield towards("towards a y of %s" % x, EXAMPLE, to=(1.0, x), no=16)
+    yield towards("1,000,000 in all four", EXAMPLE, MILLION, -MILLION, (-MILLION, MILLION))
+    for d in (1, ALL_ONES - 1):
+        yield towards("deck %d named" % d, EXAMPLE, deck=d, no=17)
+    yield towards("16 of the point and 17", EXAMPLE, 1.0, ABOVE, deck=1, no=16)
+    yield towards("16 of the other point and 17", EXAMPLE, to=(1.0, ABOVE), deck=1, no=16)
+    yield towards("16 and 22", EXAMPLE, ABOVE, 1.0, (ABOVE, 1.0), no=16)
+    yield towards("16 and 20", EXAMPLE, to=(ABOVE, 1.0), no=16, room=0)
+    yield towards("17 and 22", EXAMPLE, to=(1.0, 1.0), deck=1, no=17)
+    yield towards("17 and 20", EXAMPLE, deck=1, no=17, room=0)
+    yield towards("22 and 20", EXAMPLE, to=(1.0, 1.0), no=22, room=0)
+    yield towards("13 and 22", ship_cases.ship_of(ship_cases.square_with(ship_cases.corner_not_there)), to=(1.0, 1.0), no=13)
+    for room in (0, 11):
+        yield towards("output of %d bytes" % room, EXAMPLE, no=20, room=room)
+    for room in (12, 13):
+        yield towards("output of %d bytes" % room, EXAMPLE, room=room)
+    for room in (0, 7):
+        yield towards("none, output of %d bytes" % room, EXAMPLE, 9.0, 9.0, (10.0, 9.0), room=room)
+
+
 # ---- damaged files
 
 GOOD = deck_blocks(SQUARE)
@@ -740,14 +883,14 @@ def damaged_cases():
         yield call("no bytes and an output of 0", b"", no=1, room=0)
     for call in (polygons, islands):
         yield call("no bytes, an output of 0 and work of 0", b"", no=1, room=0, work=0)
-    for call in CALLS[:3]:
+    for call in CALLS[:3] + [towards]:
         yield call("2 and 16", put(EXAMPLE_SHIP, 0, 0), INFINITY, no=2)
 
 
 # ---- ships from a fixed seed
 
 
-def random_cases(seed=1873, ships=4, relations=8):
+def random_cases(seed=1873, ships=4, relations=8, ways=6):
     draw = random.Random(seed).getrandbits
 
     def below(n):
@@ -794,6 +937,10 @@ def random_cases(seed=1873, ships=4, relations=8):
         ship = Ship(dots(*lists[:first]), dots(*lists[first:]))
         yield polygons("relation %d of the seed" % k, ship)
         yield polygons("relation %d of the seed, output of 8 bytes" % k, ship, room=8, no=ANY)
+    for k in range(ways):
+        ship, to = any_ship(), (coordinate(), coordinate())
+        name = "way %d of the seed" % k
+        yield towards(name, ship, coordinate(), coordinate() - 3, to, deck=below(len(ship.plan)) if below(4) == 0 else ALL_ONES, no=ANY)
 
 
 # ---- the two files
@@ -801,7 +948,8 @@ def random_cases(seed=1873, ships=4, relations=8):
 GROUPS = [probe_cases, located_deck_cases, located_reach_cases, layer_output_cases, located_size_cases]
 GROUPS += [named_polygon_cases, candidate_deck_cases, chain_cases, touch_cases, stitched_cases, candidate_output_cases]
 GROUPS += [candidate_question_cases, island_cases, island_deck_cases, entry_range_cases, island_output_cases]
-GROUPS += [stitch_cases, stitch_output_cases, removal_cases, layer_cases, removal_output_cases, damaged_cases, random_cases]
+GROUPS += [stitch_cases, stitch_output_cases, removal_cases, layer_cases, removal_output_cases]
+GROUPS += [step_cases, length_cases, reach_cases, towards_deck_cases, towards_polygon_cases, towards_question_cases, damaged_cases, random_cases]
 
 
 def cases():

@@ -9,8 +9,9 @@ use crate::cases::{answer_lines, case_bytes, is_of_run};
 use crate::check::{expected, left_out, tell, Ship};
 use crate::damage::damaged_call;
 use crate::differences::panics;
-use crate::met::{Met, CALL_LEFT_OUT, SEAT_LEFT_OUT};
+use crate::met::{Met, CALL_LEFT_OUT, EQUAL_POINTS, POINTS_OF_DISTANCE_0, SEAT_LEFT_OUT};
 use crate::outcomes::PROBES;
+use crate::polyanya::direction;
 use crate::questions::file_passes;
 use crate::random::Random;
 use crate::rings::{hit_by, STEPS};
@@ -26,7 +27,7 @@ const MOST_LENT: [usize; 2] = [32_768, 4_096];
 const FEW: u64 = 10;
 
 /// What no stored case has: ships that are too large, answers that are not the Rust's, and shapes, which are the generator's words.
-const NOT_STORED: [&str; 21] = [
+const NOT_STORED: [&str; 24] = [
     "grid",
     "fan",
     "rectangles",
@@ -36,6 +37,8 @@ const NOT_STORED: [&str; 21] = [
     "no height on a degenerate edge",
     SEAT_LEFT_OUT,
     CALL_LEFT_OUT,
+    EQUAL_POINTS,
+    POINTS_OF_DISTANCE_0,
     "refused 1",
     "refused 2",
     "refused 5",
@@ -48,6 +51,7 @@ const NOT_STORED: [&str; 21] = [
     "refused 14",
     "refused 15",
     "refused 16",
+    "refused 22",
 ];
 
 /// What stdin and stdout hold.
@@ -100,7 +104,7 @@ fn is_the_rusts(ship: &mut Ship, plan: &ShipPlan, asked: &Asked, answer: &Answer
 
 /// A place that is an argument cannot be a NaN in the programs.
 fn has_nan(call: &Call) -> bool {
-    call.query().is_some_and(|q| q.x.is_nan() || q.y.is_nan())
+    call.coordinates().iter().any(|x| x.is_nan())
 }
 
 /// What random small ships seldom have.
@@ -124,6 +128,13 @@ fn first_cases() -> Vec<(ShipPlan, Call)> {
         let deck = DeckPlan { polygons: vec![vec![0, 1, 2, 3], vec![4, 5, 6, 7]], ..deck(&points) };
         let plan = ShipPlan { reach: 1.0, steps: 1, decks: vec![deck] };
         cases.push((plan, Call::PointLayer(Query { x: 0.0, y: 0.0, deck: ANY_DECK })));
+    }
+    // A place of each step towards a point, in as many directions.
+    for step in 0..STEPS {
+        let towards = direction(STEPS - 1, 9 * step);
+        let place = (towards.0 * 2.5 * step as f32, towards.1 * 2.5 * step as f32);
+        let plan = ShipPlan { reach: 2.5, steps: STEPS, decks: vec![deck(&square(place))] };
+        cases.push((plan, Call::ClosestPointTowards { query: Query { x: 0.0, y: 0.0, deck: ANY_DECK }, towards }));
     }
     // Points that two decks share, one of them twice and one as 0 and -0.
     let decks = vec![deck(&[(0.0, 0.0), (1.0, 0.0), (1.0, 1.0)]), deck(&[(1.0, 1.0), (1.0, 1.0), (-0.0, 0.0)])];

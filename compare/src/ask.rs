@@ -3,7 +3,7 @@ use feedercoil::raw::{ANY_DECK, NO_POLYGON};
 use feedercoil::{seat_list, BlockedDecks, ShipPlan};
 
 use crate::calls::{Asked, Call, Query, Room};
-use crate::points::{random_deck, random_point, random_seat};
+use crate::points::{random_deck, random_point, random_points, random_seat};
 use crate::random::Random;
 
 /// A few decks of the ship, now and then one that is not there.
@@ -36,7 +36,7 @@ fn any_polygon(plan: &ShipPlan, random: &mut Random) -> u32 {
 }
 
 fn call(plan: &ShipPlan, random: &mut Random) -> Call {
-    match random.below(24) {
+    match random.below(26) {
         0..=5 => {
             let seats: Vec<_> = (0..random.one_of(&[0, 1, 1, 2, 3, 5])).map(|_| random_seat(plan, random)).collect();
             Call::Run { seats: seat_list(&seats) }
@@ -44,19 +44,23 @@ fn call(plan: &ShipPlan, random: &mut Random) -> Call {
         6 | 7 => Call::ClosestPoints(query(plan, random)),
         8 | 9 => Call::ClosestPoint(query(plan, random)),
         10 | 11 => {
+            let ((x, y), towards) = random_points(plan, random);
+            Call::ClosestPointTowards { query: Query { x, y, deck: random_deck(plan, random) }, towards }
+        }
+        12 | 13 => {
             let (x, y) = random_point(plan, random);
             Call::Height { x, y, polygon: if random.once_in(8) { NO_POLYGON } else { any_polygon(plan, random) } }
         }
-        12 | 13 => Call::PointLocation(loose_query(plan, random)),
-        14 | 15 => Call::PointLayer(loose_query(plan, random)),
-        16..=18 => {
+        14 | 15 => Call::PointLocation(loose_query(plan, random)),
+        16 | 17 => Call::PointLayer(loose_query(plan, random)),
+        18..=20 => {
             let query = loose_query(plan, random);
             let named = random.one_of(&[0, 0x0100_0000, 12345]);
             Call::CandidatePolygons { query, polygon: if random.once_in(8) { named } else { NO_POLYGON } }
         }
-        19 | 20 => Call::Islands { deck: random.below(plan.decks.len() as u32) },
-        21 => Call::StitchPoints,
-        22 => Call::RemoveStitches,
+        21 | 22 => Call::Islands { deck: random.below(plan.decks.len() as u32) },
+        23 => Call::StitchPoints,
+        24 => Call::RemoveStitches,
         _ => {
             let any = random.below(256) as u8;
             Call::RemoveStitchesToLayer { layer: random.one_of(&[0, 1, 2, 3, 255, any]) }

@@ -73,7 +73,7 @@ impl RustShip {
         self.mesh.search_steps = self.plan.steps;
     }
 
-    /// The bytes of the answer to a call that passes questions 1 to 19.
+    /// The bytes of the answer to a call that passes questions 1 to 19 and 22.
     pub fn answer(&mut self, call: &Call, blocked: &[u8]) -> Vec<u8> {
         let blocked = if call.takes_blocked() { blocked_layers(blocked) } else { HashSet::new() };
         match call {
@@ -85,6 +85,10 @@ impl RustShip {
             }
             Call::ClosestPoint(q) => {
                 let found = self.mesh.get_closest_point_on_layers(coords(*q), blocked);
+                found.iter().flat_map(|c| bytes_of(&entry(c))).collect()
+            }
+            Call::ClosestPointTowards { query, towards } => {
+                let found = self.mesh.get_closest_point_towards(coords(*query), vec2(towards.0, towards.1));
                 found.iter().flat_map(|c| bytes_of(&entry(c))).collect()
             }
             Call::Height { x, y, polygon } => {

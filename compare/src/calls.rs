@@ -16,6 +16,7 @@ pub enum Call {
     Run { seats: Vec<u8> },
     ClosestPoints(Query),
     ClosestPoint(Query),
+    ClosestPointTowards { query: Query, towards: (f32, f32) },
     Height { x: f32, y: f32, polygon: u32 },
     PointLocation(Query),
     PointLayer(Query),
@@ -27,10 +28,11 @@ pub enum Call {
 }
 
 /// The calls' names, in the order of `Call::number`.
-pub const NAMES: [&str; 11] = [
+pub const NAMES: [&str; 12] = [
     "run",
     "closest_points",
     "closest_point",
+    "closest_point_towards",
     "height",
     "point_location",
     "point_layer",
@@ -47,20 +49,21 @@ impl Call {
             Call::Run { .. } => 0,
             Call::ClosestPoints(_) => 1,
             Call::ClosestPoint(_) => 2,
-            Call::Height { .. } => 3,
-            Call::PointLocation(_) => 4,
-            Call::PointLayer(_) => 5,
-            Call::CandidatePolygons { .. } => 6,
-            Call::Islands { .. } => 7,
-            Call::StitchPoints => 8,
-            Call::RemoveStitches => 9,
-            Call::RemoveStitchesToLayer { .. } => 10,
+            Call::ClosestPointTowards { .. } => 3,
+            Call::Height { .. } => 4,
+            Call::PointLocation(_) => 5,
+            Call::PointLayer(_) => 6,
+            Call::CandidatePolygons { .. } => 7,
+            Call::Islands { .. } => 8,
+            Call::StitchPoints => 9,
+            Call::RemoveStitches => 10,
+            Call::RemoveStitchesToLayer { .. } => 11,
         }
     }
 
     /// Bytes of an entry; of removal, which counts bytes, 1; of the location, which writes nothing, 0.
     pub fn entry_size(&self) -> usize {
-        [36, 12, 12, 4, 0, 4, 4, 4, 16, 1, 1][self.number()]
+        [36, 12, 12, 12, 4, 0, 4, 4, 4, 16, 1, 1][self.number()]
     }
 
     pub fn takes_blocked(&self) -> bool {
@@ -82,10 +85,19 @@ impl Call {
     pub fn query(&self) -> Option<Query> {
         match *self {
             Call::ClosestPoints(query) | Call::ClosestPoint(query) | Call::PointLocation(query) | Call::PointLayer(query) => Some(query),
-            Call::CandidatePolygons { query, .. } => Some(query),
+            Call::ClosestPointTowards { query, .. } | Call::CandidatePolygons { query, .. } => Some(query),
             Call::Height { x, y, .. } => Some(Query { x, y, deck: raw::ANY_DECK }),
             _ => None,
         }
+    }
+
+    /// The coordinates of the points of a call.
+    pub fn coordinates(&self) -> Vec<f32> {
+        let mut all = self.query().map_or(vec![], |q| vec![q.x, q.y]);
+        if let Call::ClosestPointTowards { towards: (x, y), .. } = *self {
+            all.extend([x, y]);
+        }
+        all
     }
 }
 
@@ -155,6 +167,7 @@ pub fn library(file: &[u8], call: &Call, blocked: &[u8], output: usize, work: us
         Call::Run { seats } => raw::run(file, blocked, seats, o),
         Call::ClosestPoints(q) => raw::closest_points(file, q.x, q.y, q.deck, blocked, o),
         Call::ClosestPoint(q) => raw::closest_point(file, q.x, q.y, q.deck, blocked, o),
+        Call::ClosestPointTowards { query: q, towards: (x, y) } => raw::closest_point_towards(file, q.x, q.y, *x, *y, q.deck, o),
         Call::Height { x, y, polygon } => raw::height(file, *x, *y, *polygon, o),
         Call::PointLocation(q) => match raw::point_location(file, q.x, q.y, q.deck) {
             Ok(polygon) => return Ok(Answer::Wrote(bytes_of(&[polygon]))),

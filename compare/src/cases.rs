@@ -10,16 +10,21 @@ pub struct Case {
 
 /// Whether a call is the run's, a closest point's or the height's.
 pub fn is_of_run(call: &Call) -> bool {
-    call.number() <= 3
+    matches!(call, Call::Run { .. } | Call::ClosestPoints(_) | Call::ClosestPoint(_) | Call::Height { .. })
 }
 
 fn letter(call: &Call) -> u32 {
-    u32::from(b"RPQHPLCISRT"[call.number()])
+    u32::from(b"RPQDHPLCISRT"[call.number()])
 }
 
 /// The bytes of a case, which has its lengths from what is expected of it.
 pub fn case_bytes(file: &[u8], asked: &Asked, expected: &Expected) -> Vec<u8> {
-    let blocked: &[u8] = if asked.call.takes_blocked() { &asked.blocked } else { &[] };
+    let blocked: &[u8] = match &asked.call {
+        call if call.takes_blocked() => &asked.blocked,
+        // In the blocked set's place stands the point to go towards.
+        Call::ClosestPointTowards { towards: (x, y), .. } => &bytes_of(&[x.to_bits(), y.to_bits()]),
+        _ => &[],
+    };
     let (f, b, output) = (file.len() as u32, blocked.len() as u32, expected.output as u32);
     let head = |words: &[u32]| bytes_of(&[&[letter(&asked.call)], words].concat());
     let other = |query: Option<Query>, deck: u32, number: u32| {
@@ -32,6 +37,7 @@ pub fn case_bytes(file: &[u8], asked: &Asked, expected: &Expected) -> Vec<u8> {
             [&head(&[f, b, q.x.to_bits(), q.y.to_bits(), q.deck, output]), file, blocked].concat()
         }
         Call::Height { x, y, polygon } => [&head(&[f, x.to_bits(), y.to_bits(), *polygon, output]), file].concat(),
+        Call::ClosestPointTowards { query, .. } => other(Some(*query), query.deck, 0),
         Call::CandidatePolygons { query, polygon } => other(Some(*query), query.deck, *polygon),
         Call::PointLocation(q) | Call::PointLayer(q) => other(Some(*q), q.deck, 0),
         Call::Islands { deck } => other(None, *deck, 0),
@@ -65,6 +71,10 @@ pub fn read_case(bytes: &[u8], of_run: bool) -> Option<(Case, &[u8])> {
         (true, b'P') => Call::ClosestPoints(point(3, w[5])),
         (true, b'Q') => Call::ClosestPoint(point(3, w[5])),
         (true, b'H') => Call::Height { x: f32::from_bits(w[2]), y: f32::from_bits(w[3]), polygon: w[4] },
+        (false, b'D') => match words(&blocked)[..] {
+            [x, y] => Call::ClosestPointTowards { query: point(3, w[5]), towards: (f32::from_bits(x), f32::from_bits(y)) },
+            _ => return None,
+        },
         (false, b'P') => Call::PointLocation(point(3, w[5])),
         (false, b'L') => Call::PointLayer(point(3, w[5])),
         (false, b'C') => Call::CandidatePolygons { query: point(3, w[5]), polygon: w[6] },

@@ -5,7 +5,7 @@ use feedercoil::ShipPlan;
 
 use crate::by_rust::{blocked_layers, names_blocked, RustShip};
 use crate::calls::{library, words, Answer, Asked, Call, NAMES};
-use crate::met::{Met, CALL_LEFT_OUT};
+use crate::met::{Met, CALL_LEFT_OUT, EQUAL_POINTS, POINTS_OF_DISTANCE_0};
 use crate::outcomes;
 use crate::questions::{first_no, work_asked};
 
@@ -84,6 +84,9 @@ pub fn tell(ship: &Ship, asked: &Asked, expected: &Expected, met: &mut Met) {
     let bytes = match &expected.answer {
         Answer::Refused(number) => {
             met.see(&format!("{name} refused"));
+            if let (22, Call::ClosestPointTowards { query, towards }) = (number, &asked.call) {
+                met.see(if (query.x, query.y) == *towards { EQUAL_POINTS } else { POINTS_OF_DISTANCE_0 });
+            }
             return met.see(&format!("refused {number}"));
         }
         Answer::Wrote(bytes) => bytes,
@@ -97,6 +100,7 @@ pub fn tell(ship: &Ship, asked: &Asked, expected: &Expected, met: &mut Met) {
             seats.chunks(20).map(words).zip(records).for_each(|(seat, record)| outcomes::seat(met, rust, &asked.blocked, &seat, &record));
         }
         Call::ClosestPoints(_) | Call::ClosestPoint(_) => met.see_times(CALL_LEFT_OUT, left_out(asked) as u64),
+        Call::ClosestPointTowards { query, towards } => outcomes::towards(met, rust, *query, *towards, bytes),
         Call::CandidatePolygons { query, polygon: u32::MAX } => outcomes::merged(met, rust, *query, &asked.blocked, bytes),
         Call::PointLayer(query) => outcomes::probes(met, rust, *query, bytes),
         Call::Islands { deck } => outcomes::labels(met, &rust.plan.decks[*deck as usize], bytes),

@@ -114,6 +114,16 @@ pub fn damaged_call(plan: &ShipPlan, random: &mut Random) -> Asked {
     match &mut asked.call {
         Call::Run { seats } => damage_seats(plan, seats, random),
         Call::ClosestPoints(q) | Call::ClosestPoint(q) | Call::PointLocation(q) | Call::PointLayer(q) => damage_query(plan, q, random),
+        Call::ClosestPointTowards { query, towards } => {
+            if random.once_in(3) {
+                *towards = (query.x, query.y);
+            }
+            match random.below(4) {
+                0 => towards.0 = wrong_float(random),
+                1 => towards.1 = wrong_float(random),
+                _ => damage_query(plan, query, random),
+            }
+        }
         Call::CandidatePolygons { query, .. } => damage_query(plan, query, random),
         Call::Height { x, polygon, .. } => match random.below(4) {
             0 => *x = wrong_float(random),

@@ -57,7 +57,7 @@ fn library_height(plan: &ShipPlan, polygon: u32) -> Result<Option<f32>, Refusal>
 /// What the first column of the table says, and whether both sides are as it says.
 pub type Difference = (&'static str, fn() -> bool);
 
-pub const DIFFERENCES: [Difference; 19] = [
+pub const DIFFERENCES: [Difference; 20] = [
     ("the height on an edge whose squared length rounds to 0", || {
         let plan = ship(vec![point(&[1.0])]);
         let height = Coords::on_polygon(vec2(0.0, 0.0), 0).height(&rust(&plan));
@@ -142,6 +142,15 @@ pub const DIFFERENCES: [Difference; 19] = [
             && library.run(&shut, &[seat]) == Ok(vec![SeatRecord::Unplaced { tried: 0 }])
             && library.get_closest_points_on_layers(0.0, 0.0, Some(0), &shut) == Ok(vec![])
             && library.get_closest_point_on_layers(0.0, 0.0, Some(0), &shut) == Ok(None)
+    }),
+    ("a point and the one to go towards, at a squared distance that computes to 0", || {
+        let plan = ship(vec![point(&[])]);
+        let (mesh, library) = (rust(&plan), Ship::new(plan.file()));
+        let nowhere = |to: (f32, f32)| {
+            mesh.get_closest_point_towards(vec2(0.0, 0.0), vec2(to.0, to.1)).is_none()
+                && library.get_closest_point_towards(0.0, 0.0, to, None) == Err(Refusal(22))
+        };
+        found(&mesh, vec2(0.0, 0.0)) == [0] && [(0.0, 0.0), (1e-23, 0.0), (1e-23, -1e-23)].into_iter().all(nowhere)
     }),
     ("a polygon of no vertices", || {
         let plan = ship(vec![deck(&[(0.0, 0.0)], &[], &[])]);

@@ -1,5 +1,5 @@
 //! The few operations of the vector library that the extracted code uses, by component (document 01, section 1).
-use std::ops::{Add, Mul, Sub};
+use std::ops::{Add, Mul, Neg, Sub};
 
 #[derive(Debug, Clone, Copy, PartialEq)]
 pub struct Vec2 {
@@ -32,6 +32,11 @@ impl Vec2 {
     pub fn distance(self, b: Vec2) -> f32 {
         (self - b).dot(self - b).sqrt()
     }
+
+    /// Times 1/length, and the length the root of the dot product (document 02, point 2).
+    pub fn normalize(self) -> Vec2 {
+        self * (1.0 / self.dot(self).sqrt())
+    }
 }
 
 impl Add for Vec2 {
@@ -55,6 +60,14 @@ impl Sub for Vec2 {
     #[inline(always)]
     fn sub(self, b: Vec2) -> Vec2 {
         vec2(self.x - b.x, self.y - b.y)
+    }
+}
+
+impl Neg for Vec2 {
+    type Output = Vec2;
+    #[inline(always)]
+    fn neg(self) -> Vec2 {
+        vec2(-self.x, -self.y)
     }
 }
 

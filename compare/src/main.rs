@@ -21,6 +21,7 @@ mod rounds;
 mod seen;
 mod ships;
 mod stored;
+mod ways;
 
 #[cfg(not(feature = "mistakes"))]
 mod by_rust;
@@ -90,6 +91,10 @@ fn compare_all(calls: u64, seed: u64) {
     if hit != rings::SAMPLES {
         fail(&format!("{hit} samples of {} were a seat's place", rings::SAMPLES));
     }
+    let towards = ways::every_step(&mut |difference| fail(difference));
+    if towards != u64::from(ways::CALLS) {
+        fail(&format!("{towards} calls of {} found a place towards a point", ways::CALLS));
+    }
     let long = large::lists(&mut |difference| fail(difference));
     let mut met = Met::new();
     rounds::random_calls(calls, seed, &mut met, &mut |number, file, difference| {
@@ -105,6 +110,7 @@ fn compare_all(calls: u64, seed: u64) {
     println!("compare: {stored} stored answers are the Rust's");
     println!("compare: {} known differences are as docs/DIFFERENCES.md has them", differences::DIFFERENCES.len());
     println!("compare: each of {hit} samples of 16 steps was a seat's place, in {} calls", rings::CALLS);
+    println!("compare: each of 16 steps towards {} points found its place, in {towards} calls", ways::PAIRS);
     println!("compare: {long} calls with long lists agree");
     let (seats, calls) = (met.count(SEAT_LEFT_OUT), met.count(CALL_LEFT_OUT));
     println!("compare: left out, and held to document 02: {seats} seats and {calls} closest-point calls that name a blocked deck");

@@ -7,8 +7,12 @@ use crate::calls::NAMES;
 pub const SEAT_LEFT_OUT: &str = "seat left out: it names a blocked deck";
 pub const CALL_LEFT_OUT: &str = "closest-point call left out: it names a blocked deck";
 
+/// Two points that are refused with 22: equal ones, and others whose squared distance computes to 0.
+pub const EQUAL_POINTS: &str = "towards an equal point";
+pub const POINTS_OF_DISTANCE_0: &str = "towards another point, at a squared distance of 0";
+
 /// Kinds of ships, points and answers. To these come each call, step, probe and number of a refusal.
-const KINDS: [&str; 62] = [
+const KINDS: [&str; 71] = [
     "grid",
     "fan",
     "rectangles",
@@ -57,6 +61,15 @@ const KINDS: [&str; 62] = [
     "wish with a tie",
     "wish past a candidate without a height",
     "wish among candidates without a height",
+    "place towards a point: step 0",
+    "place towards a point: a later step",
+    "place towards a point: none",
+    "place towards a point: a named deck",
+    "place towards a point: none named, above the lowest deck",
+    "place towards a point: a deck with an offset",
+    "towards a nearly equal point",
+    EQUAL_POINTS,
+    POINTS_OF_DISTANCE_0,
     "candidate dropped",
     "candidate dropped above deck 0",
     "candidate dropped through a chain",
@@ -87,7 +100,7 @@ impl Met {
         names.extend(KINDS.iter().map(|kind| kind.to_string()));
         names.extend((0..16).map(|step| format!("step {step}")));
         names.extend((0..9).map(|probe| format!("probe {probe}")));
-        names.extend((1..=20).map(|number| format!("refused {number}")));
+        names.extend((1..=20).chain([22]).map(|number| format!("refused {number}")));
         Met { calls: 0, counts: names.iter().map(|name| (name.clone(), 0)).collect(), names }
     }
 

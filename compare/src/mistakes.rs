@@ -4,6 +4,7 @@ use crate::polyanya::{switch_on, MISTAKES};
 use crate::rings::{self, every_sample};
 use crate::rounds::{random_calls, GATE_CALLS, SEED};
 use crate::stored;
+use crate::ways;
 
 /// How many answers differ.
 struct Differences {
@@ -11,7 +12,7 @@ struct Differences {
     random: u64,
     calls: u64,
     first: Option<u64>,
-    /// Of the calls for every sample of every step.
+    /// Of the calls for every sample of every step, and for every step towards a point.
     samples: u64,
     /// Of the stored answers, with how many these are.
     stored: u64,
@@ -22,6 +23,7 @@ fn differences() -> Differences {
     let mut met = Met::new();
     let (mut random, mut samples, mut stored, mut first) = (0, 0, 0, None);
     every_sample(&mut |_| samples += 1);
+    ways::every_step(&mut |_| samples += 1);
     random_calls(GATE_CALLS, SEED, &mut met, &mut |number, _, _| {
         first = first.or(Some(number));
         random += 1;
@@ -50,7 +52,7 @@ pub fn all_show() -> bool {
     println!(
         "| mistake | of {} random calls | first in call | of {} calls at samples | of {} stored answers |",
         none.calls,
-        rings::CALLS,
+        rings::CALLS + ways::CALLS,
         none.answers
     );
     println!("|---|---|---|---|---|");

@@ -8,6 +8,7 @@ use crate::by_rust::{blocked_layers, coords, names_blocked, RustShip};
 use crate::calls::{words, Query};
 use crate::glam::vec2;
 use crate::met::{Met, SEAT_LEFT_OUT};
+use crate::questions::squared_distance;
 use crate::seen::{edges, from_edge, point};
 
 /// A seat and the Rust's record of it.
@@ -46,6 +47,22 @@ pub fn seat(met: &mut Met, ship: &RustShip, blocked: &[u8], seat: &[u32], record
         met.see_if(gaps[..chosen].contains(&None), "wish past a candidate without a height");
         met.see_if(gaps.len() > 1 && gaps.iter().all(Option::is_none), "wish among candidates without a height");
     }
+}
+
+/// What a search towards a point found. Its squared distance is subnormal where the two points are nearly equal.
+pub fn towards(met: &mut Met, ship: &RustShip, query: Query, towards: (f32, f32), answer: &[u8]) {
+    met.see_if(squared_distance(query, towards) < f32::MIN_POSITIVE, "towards a nearly equal point");
+    let deck = match words(answer).first() {
+        None => return met.see("place towards a point: none"),
+        Some(polygon) => (polygon >> 24) as usize,
+    };
+    let layer = &ship.mesh.layers[deck];
+    let here = layer.get_point_locations_unit(vec2(query.x, query.y) - layer.offset).next().is_some();
+    met.see_if(here, "place towards a point: step 0");
+    met.see_if(!here, "place towards a point: a later step");
+    met.see_if(query.deck != ANY_DECK, "place towards a point: a named deck");
+    met.see_if(query.deck == ANY_DECK && deck > 0, "place towards a point: none named, above the lowest deck");
+    met.see_if(layer.offset.x != 0.0 || layer.offset.y != 0.0, "place towards a point: a deck with an offset");
 }
 
 /// What candidate_polygons kept of what was found.

@@ -79,6 +79,15 @@ fn outside(random: &mut Random) -> Point {
     (random.sign() * random.one_of(&[40.0, 7000.0, MOST]), random.coordinate(100) * 1000.0)
 }
 
+/// As it may stand in a call; of a ship with an even number of steps, -0 for 0.
+fn set(plan: &ShipPlan, x: f32) -> f32 {
+    if x == 0.0 && plan.steps & 1 == 0 {
+        -0.0
+    } else {
+        x.clamp(-MOST, MOST)
+    }
+}
+
 /// A point around a ship.
 pub fn random_point(plan: &ShipPlan, random: &mut Random) -> Point {
     let deck = &plan.decks[random.index(plan.decks.len())];
@@ -91,8 +100,47 @@ pub fn random_point(plan: &ShipPlan, random: &mut Random) -> Point {
         14 => (random.coordinate(8), random.coordinate(8)),
         _ => target(deck, random),
     };
-    let set = |x: f32| if x == 0.0 && plan.steps & 1 == 0 { -0.0 } else { x.clamp(-MOST, MOST) };
-    (set(x + deck.offset.0), set(y + deck.offset.1))
+    (set(plan, x + deck.offset.0), set(plan, y + deck.offset.1))
+}
+
+/// A point some reaches off a place on a polygon, and one on its way there or past the place. Of three ways, the one that leads
+/// farthest from a vertex of the deck.
+fn on_the_way(plan: &ShipPlan, random: &mut Random) -> (Point, Point) {
+    let deck = &plan.decks[random.index(plan.decks.len())];
+    let away = plan.reach * random.below(plan.steps).max(random.below(plan.steps)) as f32;
+    let to = target(deck, random);
+    let from = corner(deck, random.below(deck.vertices.len() as u32));
+    let off = |(x, y): Point, by: f32| (to.0 + x * by, to.1 + y * by);
+    let far = |way: &Point| {
+        let p = off(*way, -away);
+        (p.0 - from.0).hypot(p.1 - from.1)
+    };
+    let ways = [0; 3].map(|_| direction(15, random.below(151)));
+    let way = ways.into_iter().max_by(|p, q| far(p).total_cmp(&far(q))).unwrap();
+    let past = random.one_of(&[1.0, -away / 2.0, away + 0.5, 1e-3 - away, 500.0]);
+    let set = |(x, y): Point| (set(plan, x + deck.offset.0), set(plan, y + deck.offset.1));
+    (set(off(way, -away)), set(off(way, past)))
+}
+
+/// 0, or a number whose square is subnormal or 0.
+fn next_to_0(random: &mut Random) -> f32 {
+    if random.once_in(3) {
+        return random.sign() * 0.0;
+    }
+    random.sign() * 10f32.powf(-20.0 - 4.0 * random.part())
+}
+
+/// A point, and another to go towards: the point itself, nearly the point, on the way to a polygon, or anywhere.
+pub fn random_points(plan: &ShipPlan, random: &mut Random) -> (Point, Point) {
+    match random.below(16) {
+        0 => {
+            let point = random_point(plan, random);
+            (point, point)
+        }
+        1..=4 => ((next_to_0(random), next_to_0(random)), (next_to_0(random), next_to_0(random))),
+        5..=11 => on_the_way(plan, random),
+        _ => (random_point(plan, random), random_point(plan, random)),
+    }
 }
 
 /// A deck of the ship, or none named.

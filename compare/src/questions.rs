@@ -4,7 +4,7 @@ mod first_question;
 
 use first_question::{first_question, number};
 
-use crate::calls::{Asked, Call};
+use crate::calls::{Asked, Call, Query};
 
 const ALL_ONES: u32 = u32::MAX;
 
@@ -58,12 +58,18 @@ fn lists_in_range(file: &[u8], deck: usize) -> bool {
     used.all(|entry| entry == ALL_ONES || entry < polygons(file, deck))
 }
 
+/// The squared distance of two points, in f32.
+pub fn squared_distance(query: Query, (x, y): (f32, f32)) -> f32 {
+    let (dx, dy) = (query.x - x, query.y - y);
+    dx * dx + dy * dy
+}
+
 /// Whether a file passes questions 1 to 13.
 pub fn file_passes(file: &[u8]) -> bool {
     first_question(file).is_none()
 }
 
-/// The first question from 1 to 19 that a call does not pass.
+/// The first question from 1 to 19, or 22, that a call does not pass.
 pub fn first_no(file: &[u8], asked: &Asked) -> Option<u32> {
     if let Some(no) = first_question(file) {
         return Some(no);
@@ -78,11 +84,16 @@ pub fn first_no(file: &[u8], asked: &Asked) -> Option<u32> {
         }
         return seats.chunks(20).find_map(|seat| seat_question(file, seat));
     }
-    if call.query().is_some_and(|q| !in_size(q.x) || !in_size(q.y)) {
+    if !call.coordinates().into_iter().all(in_size) {
         return Some(16);
     }
     match *call {
-        Call::ClosestPoints(q) | Call::ClosestPoint(q) if q.deck != ALL_ONES && !is_deck(file, q.deck) => Some(17),
+        Call::ClosestPoints(q) | Call::ClosestPoint(q) | Call::ClosestPointTowards { query: q, .. }
+            if q.deck != ALL_ONES && !is_deck(file, q.deck) =>
+        {
+            Some(17)
+        }
+        Call::ClosestPointTowards { query, towards } if squared_distance(query, towards) == 0.0 => Some(22),
         Call::Height { polygon: ALL_ONES, .. } => None,
         Call::Height { polygon, .. } if !is_deck(file, polygon >> 24) => Some(17),
         Call::Height { polygon, .. } if polygon % (1 << 24) >= polygons(file, (polygon >> 24) as usize) => Some(18),

@@ -18,7 +18,7 @@ const FAR: (Vec2, f32) = (vec2(999_950.0, 999_950.0), 0.05);
 
 /// A square with one corner at a place, which lies `way` from there. A sample that is off by the last bit misses it on one of the two
 /// ways, and no other sample comes near.
-fn square_at(place: Vec2, way: f32) -> DeckPlan {
+pub fn square_at(place: Vec2, way: f32) -> DeckPlan {
     let side = 32.0 * way;
     let vertex = |(dx, dy): (f32, f32)| VertexPlan { x: place.x + dx * side, y: place.y + dy * side, neighbours: vec![] };
     let corners = [(0.0, 0.0), (1.0, 0.0), (1.0, 1.0), (0.0, 1.0)];

@@ -32,6 +32,17 @@ extern "C" {
         out: *mut u8,
         out_len: usize,
     ) -> i64;
+    pub fn seats_closest_point_towards(
+        file: *const u8,
+        file_len: usize,
+        x: f32,
+        y: f32,
+        towards_x: f32,
+        towards_y: f32,
+        deck: u32,
+        out: *mut u8,
+        out_len: usize,
+    ) -> i64;
     pub fn seats_height(file: *const u8, file_len: usize, x: f32, y: f32, polygon: u32, out: *mut u8, out_len: usize) -> i64;
     pub fn seats_point_location(file: *const u8, file_len: usize, x: f32, y: f32, deck: u32) -> i64;
     pub fn seats_point_layer(file: *const u8, file_len: usize, x: f32, y: f32, deck: u32, out: *mut u8, out_len: usize) -> i64;

@@ -28,6 +28,10 @@
 //! };
 //! assert_eq!(records, [placed(1.0, 1.0, 0, 0, 1), SeatRecord::Unplaced { tried: 12 }, placed(0.0, 2.0, 1, 5, 7)]);
 //!
+//! // The third seat drawn towards a stair in the middle of the deck: in step 1 it comes to the edge.
+//! let drawn = ship.get_closest_point_towards(-0.5, 2.0, (2.0, 2.0), None)?;
+//! assert_eq!(drawn.map(|place| (place.x, place.y)), Some((0.0, 2.0)));
+//!
 //! let absent = Seat { deck: Some(1), ..Seat::at(1.0, 1.0) };
 //! assert_eq!(ship.run(&BlockedDecks::new(), &[absent]), Err(Refusal(17)));
 //! # Ok::<(), Refusal>(())

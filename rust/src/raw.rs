@@ -61,6 +61,21 @@ pub fn closest_point(file: &[u8], x: f32, y: f32, deck: u32, blocked: &[u8], out
     })
 }
 
+/// The first place on a deck from a point towards another, [`CANDIDATE_SIZE`] bytes, or no entry.
+pub fn closest_point_towards(
+    file: &[u8],
+    x: f32,
+    y: f32,
+    towards_x: f32,
+    towards_y: f32,
+    deck: u32,
+    out: &mut [u8],
+) -> Result<usize, Refusal> {
+    answer(unsafe {
+        ffi::seats_closest_point_towards(file.as_ptr(), file.len(), x, y, towards_x, towards_y, deck, out.as_mut_ptr(), out.len())
+    })
+}
+
 /// The height of a polygon at a place, [`HEIGHT_SIZE`] bytes, or no entry.
 pub fn height(file: &[u8], x: f32, y: f32, polygon: u32, out: &mut [u8]) -> Result<usize, Refusal> {
     answer(unsafe { ffi::seats_height(file.as_ptr(), file.len(), x, y, polygon, out.as_mut_ptr(), out.len()) })

@@ -2,7 +2,7 @@ use std::error::Error;
 use std::fmt;
 
 /// What each number says of the input, 1 first.
-const SENTENCES: [&str; 21] = [
+const SENTENCES: [&str; 22] = [
     "The ship file is shorter than its header of 12 bytes.",
     "The ship has no deck, or more than 256.",
     "The reach is not a number from 0 to 1,000.",
@@ -24,11 +24,12 @@ const SENTENCES: [&str; 21] = [
     "A vertex of a polygon has a neighbour entry that is neither the outside nor a polygon of the deck.",
     "The output is too short for this answer, or the work is shorter than 4 bytes a polygon.",
     "The input of seatlist is longer than 65,536 bytes, or too short for its file and its blocked set.",
+    "The point is the one to go towards, or so near to it that their squared distance is 0.",
 ];
 
 /// Why a call was refused: the number of the first question that its input does not pass.
 ///
-/// The library gives 1 to 20; 21 is the program `seatlist`'s.
+/// The library gives 1 to 20 and 22; 21 is the program `seatlist`'s.
 #[derive(Debug, Clone, Copy, PartialEq, Eq, Hash)]
 pub struct Refusal(pub u32);
 
@@ -68,7 +69,7 @@ mod tests {
 
     #[test]
     fn numbers_of_no_question() {
-        for number in [0, 22, u32::MAX] {
+        for number in [0, 23, u32::MAX] {
             assert_eq!(Refusal(number).sentence(), "There is no question of this number.");
         }
     }

@@ -78,6 +78,15 @@ impl<'a> Ship<'a> {
         Ok(Candidate::list(&out[..CANDIDATE_SIZE * count]).pop())
     }
 
+    /// The first place on a deck from a point towards another. Step 0 looks at the point, each later step a reach farther on, past
+    /// the other point too; each step at the decks in rising order, or at the named one alone. No deck is blocked. Two points whose
+    /// squared distance computes to 0 are refused with 22.
+    pub fn get_closest_point_towards(&self, x: f32, y: f32, towards: (f32, f32), deck: Option<u32>) -> Result<Option<Candidate>, Refusal> {
+        let mut out = [0; CANDIDATE_SIZE];
+        let count = raw::closest_point_towards(&self.file, x, y, towards.0, towards.1, deck.unwrap_or(ANY_DECK), &mut out)?;
+        Ok(Candidate::list(&out[..CANDIDATE_SIZE * count]).pop())
+    }
+
     /// The height of a polygon at a place. The deck's offset is not taken off.
     pub fn height(&self, x: f32, y: f32, polygon: PackedPolygon) -> Result<Option<f32>, Refusal> {
         let mut out = [0; HEIGHT_SIZE];

@@ -89,6 +89,35 @@ fn closest_points() {
 }
 
 #[test]
+fn closest_point_towards() {
+    let ship = two_decks();
+    let on = |deck, x, y| Some(Candidate { polygon: PackedPolygon::new(deck, 0), x, y });
+    let towards = |x, y, to, deck| ship.get_closest_point_towards(x, y, to, deck).unwrap();
+    // Points two apart: the length is 2, 1/length is 1/2, and each step goes half a unit.
+    assert_eq!(towards(3.0, 1.0, (5.0, 1.0), None), on(0, 3.0, 1.0), "step 0 is the point itself");
+    assert_eq!(towards(3.0, 1.0, (5.0, 1.0), Some(1)), on(1, 3.0, 1.0));
+    assert_eq!(towards(-0.5, 2.0, (1.5, 2.0), None), on(0, 0.0, 2.0), "step 1, to the right");
+    assert_eq!(towards(-0.5, 2.0, (-2.5, 2.0), None), None, "and away from the deck");
+    assert_eq!(towards(6.5, 2.0, (4.5, 2.0), None), on(1, 6.0, 2.0), "to the left, deck 1 alone");
+    assert_eq!(towards(6.5, 2.0, (4.5, 2.0), Some(0)), None);
+    assert_eq!(towards(3.0, -0.5, (3.0, 1.5), None), on(0, 3.0, 0.0), "both decks in one step: the lower");
+    assert_eq!(towards(3.0, -0.5, (3.0, 1.5), Some(1)), on(1, 3.0, 0.0));
+    assert_eq!(towards(4.5, 1.0, (2.5, 1.0), None), on(1, 4.5, 1.0), "deck 1 in step 0, before deck 0 in step 1");
+    assert_eq!(towards(-1.0, 2.0, (1.0, 2.0), None), None, "step 2 is not searched");
+    assert_eq!(ship.get_closest_point_towards(1.0, 1.0, (3.0, 1.0), Some(2)), Err(Refusal(17)));
+
+    // A stray point five from a stair at the square's corner. 1/5 is rounded, and so are 3/5 and 4/5; five times these are 3 and 4.
+    let plan = ShipPlan { reach: 5.0, ..example() };
+    assert_eq!(Ship::new(plan.file()).get_closest_point_towards(-3.0, -4.0, (0.0, 0.0), None).unwrap(), on(0, 0.0, 0.0));
+    // It goes on past the point that it is drawn towards.
+    let plan = ShipPlan { steps: 5, ..example() };
+    assert_eq!(Ship::new(plan.file()).get_closest_point_towards(-2.0, 1.0, (-1.0, 1.0), None).unwrap(), on(0, 0.0, 1.0));
+    // Several polygons at one sample: the lowest number.
+    let ship = Ship::new(still(vec![stacked(&[&[], &[], &[]])]).file());
+    assert_eq!(ship.get_closest_point_towards(1.0, 1.0, (3.0, 1.0), None).unwrap(), on(0, 1.0, 1.0));
+}
+
+#[test]
 fn step_0_turns_a_negative_zero() {
     let nothing = BlockedDecks::new();
     let at_zero = |reach| {

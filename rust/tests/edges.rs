@@ -10,6 +10,7 @@ fn passes(points: &[(f32, f32)], x: f32, y: f32) -> bool {
     let found = ship.get_closest_points_on_layers(x, y, None, &nothing).unwrap();
     let polygons: Vec<PackedPolygon> = found.iter().map(|c| c.polygon).collect();
     assert_eq!(ship.get_closest_point_on_layers(x, y, None, &nothing).unwrap(), found.first().copied());
+    assert_eq!(ship.get_closest_point_towards(x, y, (x + 1.0, y), None).unwrap(), found.first().copied());
     assert_eq!(ship.get_point_location(x, y, None).unwrap(), polygons.first().copied());
     assert_eq!(ship.get_point_layer(x, y, None).unwrap(), polygons);
     assert_eq!(ship.candidate_polygons(x, y, None, None, &nothing).unwrap(), polygons);

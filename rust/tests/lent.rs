@@ -81,6 +81,7 @@ fn empty_slices() {
     assert_eq!(raw::run(&file, &[0; 32], &[], &mut []), Ok(0));
     assert_eq!(raw::closest_points(&file, 9.0, 9.0, ANY_DECK, &[0; 32], &mut []), Ok(0));
     assert_eq!(raw::closest_point(&file, 9.0, 9.0, ANY_DECK, &[0; 32], &mut []), Ok(0));
+    assert_eq!(raw::closest_point_towards(&file, 9.0, 9.0, 10.0, 9.0, ANY_DECK, &mut []), Ok(0));
     assert_eq!(raw::height(&file, 9.0, 9.0, NO_POLYGON, &mut []), Ok(0));
     assert_eq!(raw::point_location(&file, 9.0, 9.0, ANY_DECK), Ok(NO_POLYGON));
     assert_eq!(raw::point_layer(&file, 9.0, 9.0, ANY_DECK, &mut []), Ok(0));

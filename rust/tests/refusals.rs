@@ -2,7 +2,7 @@
 mod common;
 use common::{example, lend, one_polygon, passed_by_all, refused_by_all, square, still, Call, SQUARE};
 use feedercoil::raw::{self, ANY_DECK, NO_POLYGON};
-use feedercoil::{BlockedDecks, DeckPlan, Refusal, Seat, Ship, ShipPlan, VertexPlan};
+use feedercoil::{BlockedDecks, Candidate, DeckPlan, PackedPolygon, Refusal, Seat, Ship, ShipPlan, VertexPlan};
 
 /// The example's file with a number in another place's stead.
 fn with(at: usize, number: u32) -> Vec<u8> {
@@ -170,7 +170,9 @@ fn question_16() {
             let deck = Some(0);
             assert_eq!(ship.get_closest_points_on_layers(x, y, deck, &nothing), Err(Refusal(16)));
             assert_eq!(ship.get_closest_point_on_layers(x, y, deck, &nothing), Err(Refusal(16)));
-            assert_eq!(ship.height(x, y, feedercoil::PackedPolygon(0)), Err(Refusal(16)));
+            assert_eq!(ship.get_closest_point_towards(x, y, (1.0, 1.0), deck), Err(Refusal(16)));
+            assert_eq!(ship.get_closest_point_towards(1.0, 1.0, (x, y), deck), Err(Refusal(16)));
+            assert_eq!(ship.height(x, y, PackedPolygon(0)), Err(Refusal(16)));
             assert_eq!(ship.get_point_location(x, y, deck), Err(Refusal(16)));
             assert_eq!(ship.get_point_layer(x, y, deck), Err(Refusal(16)));
             assert_eq!(ship.candidate_polygons(x, y, deck, None, &nothing), Err(Refusal(16)));
@@ -181,13 +183,14 @@ fn question_16() {
 #[test]
 fn questions_17_to_19() {
     let file = example().file();
-    let absent: [(&str, u32, Call); 7] = [
+    let absent: [(&str, u32, Call); 8] = [
         ("run", 17, |file, out, _| {
             let seat = feedercoil::seat_list(&[Seat { deck: Some(256), ..Seat::at(1.0, 1.0) }]);
             raw::run(file, &[0; 32], &seat, out)
         }),
         ("closest_points", 17, |file, out, _| raw::closest_points(file, 1.0, 1.0, 1, &[0; 32], out)),
         ("closest_point", 17, |file, out, _| raw::closest_point(file, 1.0, 1.0, 256, &[0; 32], out)),
+        ("closest_point_towards", 17, |file, out, _| raw::closest_point_towards(file, 1.0, 1.0, 3.0, 1.0, 1, out)),
         ("height", 17, |file, out, _| raw::height(file, 1.0, 1.0, 0x0100_0000, out)),
         ("height", 18, |file, out, _| raw::height(file, 1.0, 1.0, 1, out)),
         ("islands", 17, |file, out, work| raw::islands(file, 1, out, work)),
@@ -202,6 +205,41 @@ fn questions_17_to_19() {
     let islands: Call = |file, out, work| raw::islands(file, 0, out, work);
     for entry in [1, 0x0100_0000, u32::MAX - 1] {
         assert_eq!(lend("islands", islands, &with(124, entry), 0, 0).0, Err(Refusal(19)));
+    }
+}
+
+#[test]
+fn question_22() {
+    let file = example().file();
+    let ship = Ship::new(&file);
+    let towards = |x, y, to| ship.get_closest_point_towards(x, y, to, None);
+    let place = |x, y| Ok(Some(Candidate { polygon: PackedPolygon(0), x, y }));
+    assert_eq!(towards(1.0, 1.0, (1.0, 1.0)), Err(Refusal(22)));
+    assert_eq!(towards(9.0, 9.0, (9.0, 9.0)), Err(Refusal(22)), "off the deck too");
+    assert_eq!(towards(0.0, -0.0, (-0.0, 0.0)), Err(Refusal(22)));
+    assert_eq!(towards(1e6, -1e6, (1e6, -1e6)), Err(Refusal(22)));
+    assert_eq!(towards(1.0, 1.0, (1.0, 1.0 + f32::EPSILON)), place(1.0, 1.0), "the next float");
+    // The square of 2^-75 is half of the least float above 0: a tie, to 0. A sum of two such squares is 0 too.
+    let half = f32::from_bits((127 - 75) << 23);
+    let above = f32::from_bits(half.to_bits() + 1);
+    for to in [(half, 0.0), (0.0, -half), (half, half), (-half, half), (f32::from_bits(1), 0.0)] {
+        assert_eq!(towards(0.0, 0.0, to), Err(Refusal(22)), "{to:?}");
+    }
+    for to in [(above, 0.0), (half, -above), (above, above)] {
+        assert_eq!(towards(0.0, 0.0, to), place(0.0, 0.0), "{to:?}");
+    }
+
+    // After 16 and 17, before 20.
+    let equal: [(u32, Call); 4] = [
+        (22, |file, out, _| raw::closest_point_towards(file, 1.0, 1.0, 1.0, 1.0, ANY_DECK, out)),
+        (22, |file, out, _| raw::closest_point_towards(file, 1.0, 1.0, 1.0, 1.0, 0, out)),
+        (17, |file, out, _| raw::closest_point_towards(file, 1.0, 1.0, 1.0, 1.0, 1, out)),
+        (16, |file, out, _| raw::closest_point_towards(file, 2e6, 1.0, 2e6, 1.0, 1, out)),
+    ];
+    for (number, call) in equal {
+        for room in [0, 11, 12, 64] {
+            assert_eq!(lend("closest_point_towards", call, &file, room, 0).0, Err(Refusal(number)));
+        }
     }
 }
 

@@ -1,7 +1,7 @@
-//! Sections 3 to 8 of document 01, written anew over plans, against the library's answers on random ships.
+//! Sections 3 to 8 of document 01 and point 2 of document 02, written anew over plans, against the library's answers on random ships.
 mod common;
-use common::{Random, OUTSIDE};
-use feedercoil::{BlockedDecks, Candidate, DeckPlan, PackedPolygon, Seat, SeatRecord, Ship, ShipPlan};
+use common::{one_polygon, Random, OUTSIDE, SQUARE};
+use feedercoil::{BlockedDecks, Candidate, DeckPlan, PackedPolygon, Refusal, Seat, SeatRecord, Ship, ShipPlan};
 
 type Point = (f32, f32);
 
@@ -116,6 +116,27 @@ fn search(plan: &ShipPlan, p: Point, deck: Option<u32>, blocked: &BlockedDecks) 
         }
     }
     found
+}
+
+/// Document 02, point 2: the step and the place. None where the squared distance is 0, which is refused.
+fn search_towards(plan: &ShipPlan, p: Point, to: Point, deck: Option<u32>) -> Option<Option<(u32, Candidate)>> {
+    let v = sub(p, to);
+    if dot(v, v) == 0.0 {
+        return None;
+    }
+    let scale = 1.0 / dot(v, v).sqrt();
+    let way = (-(v.0 * scale), -(v.1 * scale));
+    for step in 0..plan.steps {
+        for d in (0..plan.decks.len()).filter(|&d| deck.unwrap_or(d as u32) == d as u32) {
+            let on = &plan.decks[d];
+            let at = add(sub(p, on.offset), (way.0 * plan.reach * step as f32, way.1 * plan.reach * step as f32));
+            if let Some(&k) = passing(on, at).first() {
+                let (x, y) = add(at, on.offset);
+                return Some(Some((step, Candidate { polygon: PackedPolygon::new(d as u8, k), x, y })));
+            }
+        }
+    }
+    Some(None)
 }
 
 fn height_of(plan: &ShipPlan, c: &Candidate) -> Option<f32> {
@@ -279,4 +300,34 @@ fn every_search() {
     }
     assert!(several > 3000 && dropped > 500, "{several} of several candidates, {dropped} merged");
     assert!(unsearched > 1000, "{unsearched} that name a blocked deck");
+}
+
+#[test]
+fn every_search_towards() {
+    let mut random = Random(0x57A1_2057_A120_57A1);
+    let (mut first, mut later, mut missing, mut refused) = (0, 0, 0, 0);
+    for _ in 0..3000 {
+        let mut plan = ship(&mut random);
+        // Polygons of one vertex pass everywhere, in step 0. Of squares, more are met later.
+        if random.below(4) > 0 {
+            plan.decks.iter_mut().for_each(|deck| *deck = DeckPlan { offset: deck.offset, ..one_polygon(&SQUARE) });
+        }
+        let file = plan.file();
+        let ship = Ship::new(&file);
+        for _ in 0..8 {
+            let to = point(&mut random, &plan);
+            let p = if random.below(2) == 0 { add(to, (random.float(), random.float())) } else { point(&mut random, &plan) };
+            let deck = if random.below(3) == 0 { Some(random.below(plan.decks.len() as u32)) } else { None };
+            let (count, expected) = match search_towards(&plan, p, to, deck) {
+                None => (&mut refused, Err(Refusal(22))),
+                Some(None) => (&mut missing, Ok(None)),
+                Some(Some((0, place))) => (&mut first, Ok(Some(bits(&place)))),
+                Some(Some((_, place))) => (&mut later, Ok(Some(bits(&place)))),
+            };
+            *count += 1;
+            let found = ship.get_closest_point_towards(p.0, p.1, to, deck);
+            assert_eq!(found.map(|place| place.as_ref().map(bits)), expected, "{plan:?} {p:?} {to:?} {deck:?}");
+        }
+    }
+    assert!(first > 3000 && later > 700 && missing > 3000 && refused > 500, "{first} {later} {missing} {refused}");
 }

@@ -9,7 +9,7 @@ use lib.ListN.{length}
 use lib.Ieee.{binary32, toBits}
 use Rattle.geometry.specs.declared.Vec2.{Vec2}
 use Rattle.geometry.specs.Bounds.{PointWithin}
-use Rattle.geometry.proofs.Bounds.{not-nan}
+use Rattle.geometry.proofs.Bounds.{not-nan, widen}
 use Rattle.words.specs.Bytes.{bytes4, joined, wordsOf, splice}
 use Rattle.words.proofs.Writing.{Rest, rest-all, rest-more-front, rest-front, length-joined}
 use Rattle.answers.specs.declared.Answer.the-variants.{Refused, Wrote}
@@ -67,8 +67,10 @@ module _ {file blocked : List ℕ} {seat : Seat} {s : ℕ} {out₀ out : List �
     putting-room = omega (arith, passing-below (h .passes) e, h .room, h .rest .long)
 
     module _ {place : Vec2} (at : place ≡ shownBy file (seat .place) .place c) where
-      pub putting-place : PointWithin 3015000 place
-      putting-place = rw at (passing-within (h .passes) e .place-within)
+      pub putting-place : PointWithin 3030000 place
+      putting-place =
+          let near = passing-within (h .passes) e .place-within in
+          rw at (record { x = widen (omega arith) (near .x); y = widen (omega arith) (near .y) })
 
       pub putting-more : {next′ : Next} → WalkedAfter file (seenBy file blocked seat) c next′ → {polygon : ℕ} {out′ : List ℕ} → polygon ≡ packedOf (c .deck) (c .polygon)
           → out′ ≡ splice out (entrySize * n) (entryBytes polygon place) → Putting file blocked seat s out₀ out′ (n + 1) next′

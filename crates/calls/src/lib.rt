@@ -65,8 +65,8 @@ pub fn asked_at(p: Vec2, deck: u32) -> Seat
 }
 
 // A candidate's entry, as number n.
-fn put_candidate(out: &mut [u8], n: usize, polygon: u32, place: Vec2)
-    requires { ⌜ (entrySize * n + entrySize ≤ length (now out)) × PointWithin 3015000 place ⌝ }
+pub fn put_candidate(out: &mut [u8], n: usize, polygon: u32, place: Vec2)
+    requires { ⌜ (entrySize * n + entrySize ≤ length (now out)) × PointWithin 3030000 place ⌝ }
     ensures { λ _. ⌜ now (out .exit) ≡ splice (now (out .entry)) (entrySize * n) (entryBytes polygon place) ⌝ }
 {
     let words = [polygon, f32::to_bits(place.x), f32::to_bits(place.y)];

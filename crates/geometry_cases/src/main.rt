@@ -33,7 +33,7 @@ fn words_of(letter: u8) -> usize
     ensures { λ r. ⌜ r ≤ 8 ⌝ }
 {
     match letter {
-        b'A' => 1,
+        b'A' | b'R' => 1,
         b'N' | b'X' => 2,
         b'D' | b'C' | b'P' => 4,
         b'S' | b'M' => 5,
@@ -171,6 +171,17 @@ fn mean(count: u32, real: &[f32; 8]) -> Answer {
     Answer::Float(sum.mean())
 }
 
+// The root of a pattern's number, which is above zero and finite.
+fn square_root(bits: u32) -> Answer {
+    if bits < 1 {
+        return Answer::Bad;
+    }
+    if bits >= 0x7F800000 {
+        return Answer::Bad;
+    }
+    Answer::Float(root::sqrt(f32::from_bits(bits)))
+}
+
 // The functions of an edge and a point.
 fn at_edge(letter: u8, real: &[f32; 8]) -> Answer {
     let p = point(real, 0);
@@ -194,6 +205,7 @@ fn case_answer(t: &[i32; 2432], letter: u8, whole: &[u32; 8], real: &[f32; 8]) -
         b'P' => probe(point(real, 0), real[2], whole[3]),
         b'M' => mean(whole[0], real),
         b'A' => Answer::Float(geometry::abs(real[0])),
+        b'R' => square_root(whole[0]),
         b'N' => Answer::Float(geometry::min(real[0], real[1])),
         b'X' => Answer::Float(geometry::max(real[0], real[1])),
         b'D' => Answer::Float(geometry::dot(point(real, 0), point(real, 2))),

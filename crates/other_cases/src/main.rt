@@ -3,7 +3,7 @@ use libc::STDIN_FILENO;
 
 // An input that does not fit is cut: `bad`, or too few lines, shows it.
 fn main() {
-    let mut buffer = [0u8; 262144];
+    let mut buffer = [0u8; 294912];
     let n = io::read_full(STDIN_FILENO, &mut buffer);
     other_replay::print_answers(&buffer[..n]);
 }

@@ -1,9 +1,10 @@
-// Runs stored cases of the calls of document 01, section 8. The input is cases, one after the other. A case is nine words
-// (u32, little-endian; a float by its bit pattern), the file and the blocked set:
+// Runs stored cases of the calls of document 01, section 8, and document 02, point 2. The input is cases, one after the other. A case is
+// nine words (u32, little-endian; a float by its bit pattern), the file and the blocked set:
 //   the call's letter, file length, blocked length, x, y, deck, number, output length, work length
 // A call takes of these what it has. The number is a packed polygon or a layer. The letters:
 //   P get_point_location        L get_point_layer        C candidate_polygons          I bake_islands_detection
-//   S find_stitch_points        R remove_stitches        T remove_stitches_to_layer
+//   S find_stitch_points        R remove_stitches        T remove_stitches_to_layer    D get_closest_point_towards
+// The last takes no blocked set: x and y of the point to go towards stand in its place.
 // The answer's lines are those of the crate `cases`; a new file is printed a word a line. A location is one line: `found` and the
 // packed polygon in 8 hexadecimal digits, or `refused` and the number. What is no case gives the one word `bad`, and nothing after it
 // is read.
@@ -55,6 +56,19 @@ fn point_layer(file: &[u8], p: Vec2, deck: u32, out: &mut [u8]) {
     print_answer(answer, 4, 4, out);
 }
 
+// Whether there is a point to go towards.
+fn point_towards(file: &[u8], q: Query, end: &[u8], out: &mut [u8]) -> bool {
+    if end.len() != 8 {
+        return false;
+    }
+    let Place::At(towards) = place_at(end, 0) else {
+        return false;
+    };
+    let answer = towards::get_closest_point_towards(file, q.p, towards, q.deck, out);
+    print_answer(answer, 12, 12, out);
+    true
+}
+
 fn polygons(file: &[u8], q: Query, blocked: &[u8], out: &mut [u8], work: &mut [u8]) {
     let answer = candidates::candidate_polygons(file, q.p, q.deck, q.number, blocked, out, work);
     print_worked(answer, 4, out, work);
@@ -97,6 +111,7 @@ fn run(q: Query, file: &[u8], blocked: &[u8], out: &mut [u8], work: &mut [u8]) -
             }
             without_stitches_to(file, q.number as u8, out)
         }
+        b'D' => return point_towards(file, q, blocked, out),
         _ => return false,
     }
     true

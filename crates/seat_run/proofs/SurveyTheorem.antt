@@ -17,6 +17,7 @@ use Rattle.ship.specs.Model.{Ship, withSteps}
 use Rattle.ship.specs.Decode.{decode, withStepsBytes}
 use Rattle.ship.specs.Questions.{firstNo}
 use Rattle.ship.proofs.Facts.{steps-range}
+use Rattle.ship.proofs.ModelFacts.{steps-in}
 use Rattle.ship.proofs.RaisedSteps.{raised, raised-decks}
 use Rattle.survey.specs.declared.Seat.{Seat}
 use Rattle.survey.specs.Search.{seatRecord}
@@ -97,17 +98,13 @@ module _ (file blocked seats out : List ℕ) (passed : replyCheck (runReply file
   raised-record : (i : ℕ) → recordOfSeat (decode (withStepsBytes file S)) blocked seats i ≡ seatRecord (view (decode file) blocked (seatAt seats i)) S
   raised-record i = rw (raised-file .1, view-steps (decode file) S blocked (seatAt seats i))
 
-  steps-in : decode file .steps ≡ stepsIn file
-  unfolding decode
-  steps-in = refl
-
   kept : Kept (seatCount seats) (outputTo (runReply file blocked seats) out) (outputTo (runReply (withStepsBytes file S) blocked seats) out′)
   kept i h placed =
       let v = view (decode file) blocked (seatAt seats i) in
       let here = result-record file blocked seats out passed i h in
       result-slice (withStepsBytes file S) blocked seats out′ raised-run i h
       ∙ ap recordBytes
-      (raised-record i ∙ steady v (decode file .steps) S (omega (arith, steps-in)) (λ e. placed (ap (λ (r : SeatRecord). r .polygon) here ∙ e)))
+      (raised-record i ∙ steady v (decode file .steps) S (omega (arith, steps-in file)) (λ e. placed (ap (λ (r : SeatRecord). r .polygon) here ∙ e)))
       ∙ sym (result-slice file blocked seats out passed i h)
 
   counted : answerTo (runReply (withStepsBytes file S) blocked seats) out′ ≡ Wrote (seatCount seats)

@@ -16,6 +16,10 @@ use Rattle.walking.specs.Sees.{shownBy}
 use Rattle.calls.specs.Closest.{pointOfParts, closestPoints, closestPoint, closestPointsReply, closestPointReply}
 use Rattle.calls.specs.HeightCall.{heightEntry, heightCall, heightReply}
 use Rattle.calls.proofs.EntryLoop.{length-candidates}
+use Rattle.direction.specs.Direction.{directionOf}
+use Rattle.towards.specs.Towards.{closestTowards, towardsReply}
+use Rattle.towards.proofs.Turns.{length-places}
+use Rattle.towards.proofs.SnapTheorem.{snapped-code}
 use Rattle.locating.specs.declared.Location.{Location}
 use Rattle.locating.specs.Locating.{pointLayer, locationOf, locationCode, locatedCode, layerReply}
 use Rattle.candidates.specs.Candidates.{candidatePolygons, CandidatesWorked}
@@ -35,6 +39,10 @@ module _ (file : List ℕ) (p : Vec2) (deck : ℕ) (blocked : List ℕ) {out out
 
   pub point-code : Replied (closestPointReply file p deck blocked) out out′ r → length out < 2 ^ 64 → AnswerFits r
   point-code h l = replied-fits h (omega (arith, length-candidates (shownBy file p) (closestPoint file p deck blocked))) l
+
+pub towards-code : (file : List ℕ) (p towards : Vec2) (deck : ℕ) {out out′ : List ℕ} {r : Answer} → Replied (towardsReply file p towards deck) out out′ r → length out < 2 ^ 64 → AnswerFits r
+towards-code file p towards deck h l =
+    replied-fits h (omega (arith, length-places (decode file) p (directionOf p towards) (closestTowards file p towards deck))) l
 
 pub height-code : (file : List ℕ) (p : Vec2) (polygon : ℕ) {out out′ : List ℕ} {r : Answer} → Replied (heightReply file p polygon) out out′ r → length out < 2 ^ 64 → AnswerFits r
 height-code file p polygon h l = replied-fits h (omega (arith, length-words (heightEntry (heightCall file p polygon)))) l
@@ -67,5 +75,7 @@ pub ruleset codes = (points-code, point-code, height-code, layer-code, stitches-
 pub ruleset work-codes = (islands-code, candidates-code, worked-code, worked-length)
 
 pub ruleset removal-codes = (removal-fits, replied-code)
+
+pub ruleset towards-codes = (towards-code, replied-code, snapped-code)
 
 pub ruleset run-codes = (run-code, replied-code, surveyed-code, blocked-unplaced-code)

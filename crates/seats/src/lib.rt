@@ -2,6 +2,8 @@
 ghost use mathlib.Core.Path.{_≡_};
 ghost use Rattle.calls.specs.Closest.{pointOfParts, PointsCode, PointCode};
 ghost use Rattle.calls.specs.HeightCall.{HeightCode};
+ghost use Rattle.towards.specs.Towards.{TowardsCode};
+ghost use Rattle.towards.specs.Statement.{SnapSurveyedCode};
 ghost use Rattle.locating.specs.Locating.{locatedCode, LayerCode};
 ghost use Rattle.candidates.specs.Candidates.{CandidatesCode, CandidatesMerged};
 ghost use Rattle.islands.specs.Islands.{IslandsCode, LabelsLeast};
@@ -52,6 +54,29 @@ pub extern "C" fn seats_closest_point(
     ensures { λ r. ⌜ PointCode (now (file .entry)) x y deck (now (blocked .entry)) (now (out .entry)) (now (out .exit)) r ⌝ }
 {
     answers::code(calls::get_closest_point_on_layers(file, Vec2 { x, y }, deck, blocked, out))
+}
+
+// The surveyor's statement of such a place holds of every call that is not refused.
+#[no_mangle]
+pub extern "C" fn seats_closest_point_towards(
+    file: &[u8],
+    x: f32,
+    y: f32,
+    towards_x: f32,
+    towards_y: f32,
+    deck: u32,
+    out: &mut [u8],
+) -> i64
+    ensures replied { λ r. ⌜ TowardsCode (now (file .entry)) (pointOfParts x y) (pointOfParts «towards_x» «towards_y») deck
+        (now (out .entry)) (now (out .exit)) r ⌝ }
+    ensures surveyed { λ _. ⌜ SnapSurveyedCode (now (file .entry)) (pointOfParts x y) (pointOfParts «towards_x» «towards_y») deck
+        (now (out .entry)) (now (out .exit)) ⌝ }
+{
+    let towards = Vec2 {
+        x: towards_x,
+        y: towards_y,
+    };
+    answers::code(towards::get_closest_point_towards(file, Vec2 { x, y }, towards, deck, out))
 }
 
 #[no_mangle]

@@ -1,4 +1,4 @@
-//! Ships of the tests, and the eleven calls with lent output and work.
+//! Ships of the tests, and the twelve calls with lent output and work.
 #![allow(dead_code)]
 use feedercoil::raw::{self, ANY_DECK, NO_POLYGON};
 use feedercoil::{seat_list, DeckPlan, Refusal, Seat, ShipPlan, VertexPlan};
@@ -45,11 +45,12 @@ pub const LENT: u8 = 0xA5;
 
 pub type Call = fn(&[u8], &mut [u8], &mut [u8]) -> Result<usize, Refusal>;
 
-/// Every call, at (1, 1), with nothing blocked. The number is the bytes of an entry, of removal a byte.
-pub const CALLS: [(&str, usize, Call); 11] = [
+/// Every call, at (1, 1), with nothing blocked, and towards (3, 1). The number is the bytes of an entry, of removal a byte.
+pub const CALLS: [(&str, usize, Call); 12] = [
     ("run", 36, |file, out, _| raw::run(file, &[0; 32], &seat_list(&[Seat::at(1.0, 1.0)]), out)),
     ("closest_points", 12, |file, out, _| raw::closest_points(file, 1.0, 1.0, ANY_DECK, &[0; 32], out)),
     ("closest_point", 12, |file, out, _| raw::closest_point(file, 1.0, 1.0, ANY_DECK, &[0; 32], out)),
+    ("closest_point_towards", 12, |file, out, _| raw::closest_point_towards(file, 1.0, 1.0, 3.0, 1.0, ANY_DECK, out)),
     ("height", 4, |file, out, _| raw::height(file, 1.0, 1.0, 0, out)),
     ("point_location", 0, |file, _, _| raw::point_location(file, 1.0, 1.0, ANY_DECK).map(|polygon| polygon as usize)),
     ("point_layer", 4, |file, out, _| raw::point_layer(file, 1.0, 1.0, ANY_DECK, out)),

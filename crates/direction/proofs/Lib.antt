@@ -1,0 +1,3 @@
+pub mod Parts
+pub mod Short
+pub mod Examples

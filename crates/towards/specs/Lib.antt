@@ -1,0 +1,2 @@
+pub mod Towards
+pub mod Statement
