@@ -15,7 +15,7 @@ use lib.Ieee.Exact.{HasValue}
 use lib.Ieee.Scale.{grid, finite, round-same}
 use lib.Ieee.Positive.{num, den, den-pos, positive, value-pos, value→cross, first-pos}
 use Rattle.geometry.specs.declared.Vec2.{Vec2}
-use Rattle.geometry.specs.Plane.{zero32, subOf}
+use Rattle.geometry.specs.Plane.{zero32, subOf, dotOf}
 use Rattle.geometry.specs.Bounds.{Within, PointWithin}
 use Rattle.geometry.proofs.Bounds.{held, by-test, sub-within, neg-within, widen}
 use Rattle.geometry.proofs.Units.{fraction, grid-most, round-value, round-power, mul-as, square, dot-units, dot-value}
@@ -165,6 +165,11 @@ module _ (x d l : Float) (g : ℕ) (X : T (finite x)) (G : HasValue d false g (2
       (λ s. round-power binary32 s (num x * num i) (den x * den i) 1 (mul-pos (den-pos x) (den-pos i)) (lit< tt)
       (product (num x) (den x) (num i) (den i) k (2 ^ 149) (pow-pos 149) (value→cross i k (2 ^ 149) inverse-value) b)))
 
+-- ---- `squared_distance`
+pub squared-is : (p towards : Vec2) {v : Vec2} {squared : Float} → v ≡ subOf p towards → squared ≡ dotOf v v → squared ≡ squaredDistance p towards
+unfolding squaredDistance
+squared-is p towards a b = b ∙ rw a
+
 -- ---- on points
 module _ (p towards : Vec2) (P : PointWithin 1000000 p) (Q : PointWithin 1000000 towards) (apart : eq (squaredDistance p towards) zero32 ≡ false) where
   way : Vec2
@@ -178,38 +183,41 @@ module _ (p towards : Vec2) (P : PointWithin 1000000 p) (Q : PointWithin 1000000
         y = sub-within (by-test 2000000 tt) (omega arith) (P .y) (Q .y);
       }
 
-  g′ : ℕ
-  g′ = dot-units binary32 (way .x) (way .y)
+  squared-units : ℕ
+  squared-units = dot-units binary32 (way .x) (way .y)
 
-  squared-value : HasValue (squaredDistance p towards) false g′ (2 ^ 149)
-  unfolding squaredDistance way g′
+  squared-value : HasValue (squaredDistance p towards) false squared-units (2 ^ 149)
+  unfolding squaredDistance way squared-units
   squared-value = dot-value binary32 {x = way .x} {y = way .y} 21 (lit< tt) (widen (lit≤ tt) (way-within .x)) (widen (lit≤ tt) (way-within .y))
 
   pub squared-positive : T (positive (squaredDistance p towards))
-  squared-positive = positive-apart (squaredDistance p towards) g′ (2 ^ 149) squared-value apart
+  squared-positive = positive-apart (squaredDistance p towards) squared-units (2 ^ 149) squared-value apart
 
-  some : 0 < g′
-  some = value-pos (squaredDistance p towards) g′ (2 ^ 149) squared-positive (pow-pos 149) squared-value
+  some : 0 < squared-units
+  some = value-pos (squaredDistance p towards) squared-units (2 ^ 149) squared-positive (pow-pos 149) squared-value
 
   length-facts : RootFacts (squaredDistance p towards) (rootOf (squaredDistance p towards))
   unfolding squaredDistance
   length-facts = root-facts (squaredDistance p towards) (add-fits binary32 _ _) squared-positive
 
   pub direction-within : PointWithin 2 (directionOf p towards)
-  unfolding directionOf g′ way
+  unfolding directionOf squared-units way
   direction-within =
       let d = squaredDistance p towards in
       let both = square binary32 (way .x) + square binary32 (way .y) in
       record {
-        x = turned-within (way .x) d (rootOf d) g′ (fraction (way-within .x) .0) squared-value (part-under binary32 (way .x) both (omega arith) some) length-facts;
-        y = turned-within (way .y) d (rootOf d) g′ (fraction (way-within .y) .0) squared-value (part-under binary32 (way .y) both (omega arith) some) length-facts;
+        x = turned-within (way .x) d (rootOf d) squared-units (fraction (way-within .x) .0) squared-value (part-under binary32 (way .x) both (omega arith) some) length-facts;
+        y = turned-within (way .y) d (rootOf d) squared-units (fraction (way-within .y) .0) squared-value (part-under binary32 (way .y) both (omega arith) some) length-facts;
       }
 
   -- ---- `direction_towards`
   pub towards-positive : {squared : Float} → squared ≡ squaredDistance p towards → T (positive squared)
   towards-positive e = rw e squared-positive
 
-  pub towards-is : {v : Vec2} {squared length : Float} → v ≡ subOf p towards → squared ≡ squaredDistance p towards → length ≡ rootOf squared
-      → (turnedBy v length ≡ directionOf p towards) × PointWithin 2 (turnedBy v length)
-  unfolding directionOf
-  towards-is a b c = rw (a, c, b) (refl, direction-within)
+  module _ {v : Vec2} {squared length : Float} (way-is : v ≡ subOf p towards) (squared-of : squared ≡ squaredDistance p towards) (length-is : length ≡ rootOf squared) where
+    pub towards-is : turnedBy v length ≡ directionOf p towards
+    unfolding directionOf
+    towards-is = rw (way-is, length-is, squared-of)
+
+    pub towards-within : PointWithin 2 (turnedBy v length)
+    towards-within = rw towards-is direction-within

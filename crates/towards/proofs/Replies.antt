@@ -65,7 +65,7 @@ module _ (file : List ℕ) (p towards : Vec2) (deck : ℕ) {r : Check} (said : r
           let all = asked-all in
           let g = of-given (decode file) p direction deck c (first-in (allGiven (decode file) p direction deck) c (sym first ∙ e)) in
           record {
-            ready =
+            turn-ready =
                 record {
                   file-passed = all .file-passed;
                   turn =

@@ -106,19 +106,19 @@ bounds-towards = record { once = by-test 2000 tt; all = by-test 30000 tt; sample
 
 module _ (file : List ℕ) (p direction : Vec2) {c : Place} (ready : PlaceReady file p direction c) where
   pub ready-turn : TurnReady file (c .step) (c .deck)
-  ready-turn = ready .ready
+  ready-turn = ready .turn-ready
 
   pub ready-packed : (c .deck < 256) × (c .polygon < 2 ^ 24)
-  ready-packed = (omega (arith, ready .ready .turn .deck, decks-range file (ready .ready .file-passed) .1), ready .polygon)
+  ready-packed = (omega (arith, ready .turn-ready .turn .deck, decks-range file (ready .turn-ready .file-passed) .1), ready .polygon)
 
   -- no sample and no place is a NaN or infinite
   pub ready-point : {point : Vec2} → point ≡ pointTowards (decode file) p direction (c .step) (c .deck) → PointWithin 3030000 point
   unfolding pointTowards sampleTowards
   ready-point at =
-      let o = offset-within (turn-deck file p direction (ready .ready) refl) in
+      let o = offset-within (turn-deck file p direction (ready .turn-ready) refl) in
       rw at
-      (place-along bounds-towards (ready .direction-within) (decode-reach file (ready .ready .file-passed)) (ready .ready .turn .step) (ready .point-within)
-      (rw (here file p direction (ready .ready) refl) o))
+      (place-along bounds-towards (ready .direction-within) (decode-reach file (ready .turn-ready .file-passed)) (ready .turn-ready .turn .step) (ready .point-within)
+      (rw (here file p direction (ready .turn-ready) refl) o))
 
   entry-long : length (placeReply file p direction c .bytes) ≡ entrySize * 1
   entry-long = length-places (decode file) p direction (c ∷ [])

@@ -103,7 +103,7 @@ pub record TurnReady (file : List ℕ) (s d : ℕ) : Type 0 where
 
 -- so that a place can be written: its polygon can be packed, and its point has bits
 pub record PlaceReady (file : List ℕ) (p direction : Vec2) (c : Place) : Type 0 where
-  pub ready : TurnReady file (c .step) (c .deck)
+  pub turn-ready : TurnReady file (c .step) (c .deck)
   pub polygon : c .polygon < 2 ^ 24
   pub point-within : PointWithin 1000000 p
   pub direction-within : PointWithin 2 direction

@@ -1,6 +1,6 @@
 -- `direction_towards` meets its contract.
 use borrow.Author.Needs.{needs}
-use Rattle.direction.proofs.Short.{towards-positive, towards-is}
+use Rattle.direction.proofs.Short.{towards-positive, towards-is, towards-within}
 use Rattle.direction.proofs.direction_towards.Statement.{statement}
 use Rattle.direction.proofs.direction_towards.Tie as tie
 
@@ -14,10 +14,7 @@ sqrt-requires : tie.Need-sqrt-requires
 sqrt-requires c κs = search (towards-positive, needs)
 
 returns : tie.Need-returns
-returns c =
-    let s = c .before .before in
-    let a = s .before .before .before in
-    towards-is (a .args .p) (a .args .towards) (a .pre .0) (a .pre .1 .0) (a .pre .1 .1) (s .before .before .sub .ensures) (s .before .squared-distance .ensures) (s .sqrt .ensures)
+returns c = (search (towards-is, needs), search (towards-within, needs))
 
 pub direction-towards-spec : {M : Type 1} → statement M
 direction-towards-spec =

@@ -1,6 +1,6 @@
 -- `squared_distance` meets its contract.
 use borrow.Author.Needs.{needs}
-use Rattle.direction.specs.Direction.{squaredDistance}
+use Rattle.direction.proofs.Short.{squared-is}
 use Rattle.direction.proofs.squared_distance.Statement.{statement}
 use Rattle.direction.proofs.squared_distance.Tie as tie
 
@@ -11,8 +11,7 @@ dot-requires : tie.Need-dot-requires
 dot-requires c κs = search needs
 
 returns : tie.Need-returns
-unfolding squaredDistance
-returns c = simp (c .dot .ensures, c .before .sub .ensures)
+returns c = search (squared-is, needs)
 
 pub squared-distance-spec : {M : Type 1} → statement M
 squared-distance-spec = tie.close (tie.spec sub-requires dot-requires returns)
