@@ -12,16 +12,16 @@ use crate::random::Random;
 use crate::ships::grid;
 
 /// Decks of squares that overlap in part.
-struct Shape {
-    decks: u32,
-    wide: u32,
-    high: u32,
-    steps: u32,
+pub struct Shape {
+    pub decks: u32,
+    pub wide: u32,
+    pub high: u32,
+    pub steps: u32,
     seats: u32,
 }
 
 impl Shape {
-    fn ship(&self) -> ShipPlan {
+    pub fn ship(&self) -> ShipPlan {
         let deck = |d: u32| {
             let mut deck = grid(self.wide, self.high, 1.0);
             deck.offset = (10.0 * d as f32, 5.0 * d as f32);
@@ -32,8 +32,9 @@ impl Shape {
         ShipPlan { reach: 0.5, steps: self.steps, decks: (0..self.decks).map(deck).collect() }
     }
 
-    /// A third of the seats on a deck, a third up to a few steps off, a third nowhere near.
-    fn seats(&self, random: &mut Random) -> Vec<Seat> {
+    /// A third of the seats on a deck, a third up to a few steps off, a third nowhere near, in turn.
+    pub fn seats(&self) -> Vec<Seat> {
+        let random = &mut Random(0xB0A7);
         let along = |random: &mut Random, n: u32| random.below(10 * n) as f32 / 10.0;
         let seat = |k: u32| match k % 3 {
             0 => Seat::at(along(random, self.wide), along(random, self.high)),
@@ -46,7 +47,7 @@ impl Shape {
     /// Measures both sides in turn, and prints a line.
     fn measure(&self) {
         let plan = self.ship();
-        let seats = self.seats(&mut Random(0xB0A7));
+        let seats = self.seats();
         let (file, list) = (plan.file(), seat_list(&seats));
         let mut rust = RustShip::new(plan);
         let mut out = vec![0; 36 * seats.len()];
@@ -94,16 +95,15 @@ fn table(title: &str, shapes: &[Shape]) {
     shapes.iter().for_each(Shape::measure);
 }
 
+pub const SHIPS: [Shape; 3] = [
+    Shape { decks: 1, wide: 10, high: 5, steps: 8, seats: 3000 },
+    Shape { decks: 4, wide: 50, high: 30, steps: 8, seats: 300 },
+    Shape { decks: 16, wide: 100, high: 50, steps: 8, seats: 12 },
+];
+
 /// Polygons are of each deck. The Rust is unbaked, and gives its candidates; the library its records.
 pub fn run() {
-    table(
-        "three ships",
-        &[
-            Shape { decks: 1, wide: 10, high: 5, steps: 8, seats: 3000 },
-            Shape { decks: 4, wide: 50, high: 30, steps: 8, seats: 300 },
-            Shape { decks: 16, wide: 100, high: 50, steps: 8, seats: 12 },
-        ],
-    );
+    table("three ships", &SHIPS);
     let grow = |wide, high, steps, seats| Shape { decks: 1, wide, high, steps, seats };
     table("more polygons", &[grow(10, 10, 8, 300), grow(50, 20, 8, 300), grow(100, 100, 8, 60), grow(500, 200, 8, 9)]);
     table("more seats", &[grow(50, 20, 8, 30), grow(50, 20, 8, 300), grow(50, 20, 8, 3000)]);

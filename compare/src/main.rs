@@ -8,6 +8,7 @@ mod check;
 mod damage;
 mod differences;
 mod glam;
+mod instructions;
 mod large;
 mod lists;
 mod met;
@@ -62,12 +63,15 @@ fn main() {
         }
         Some("answers") => answers::write(),
         Some("bench") => bench::run(),
+        Some("instructions") => instructions::run(),
+        // What the instructions are counted of.
+        Some("once") => instructions::once(number(2).expect("a ship") as usize, std::env::args().nth(3).as_deref() == Some("far")),
         #[cfg(feature = "mistakes")]
         Some("mistakes") if mistakes::all_show() => println!("compare: each mistake shows"),
         #[cfg(feature = "mistakes")]
         Some("mistakes") => fail("a mistake does not show, or there are differences without one"),
         _ => {
-            eprintln!("usage: compare check|full [CALLS [SEED]]|mistakes|answers|bench");
+            eprintln!("usage: compare check|full [CALLS [SEED]]|mistakes|answers|bench|instructions");
             exit(2);
         }
     }

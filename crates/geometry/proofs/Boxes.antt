@@ -1,14 +1,13 @@
 -- `in_range`, `in_bounding_box` and `on_segment`: what each branch returns is what the definition says.
 use mathlib.Core.Path.{_≡_, sym, _∙_}
-use mathlib.Core.Bool.{Bool, true, false, not}
-use borrow.Author.Tests.{not-true, not-false}
+use mathlib.Core.Bool.{Bool, true, false}
 use lib.Ieee.{Float, binary32, add, sub, le}
 use Rattle.geometry.specs.declared.Vec2.{Vec2}
-use Rattle.geometry.specs.declared.EdgeSide.{EdgeSide}
-use Rattle.geometry.specs.declared.EdgeSide.the-variants.{Edge, Left, Right}
-use Rattle.geometry.specs.Plane.{boxMargin, minOf, maxOf, sideOf, inRange, inBoundingBox, onSegment}
+use Rattle.geometry.specs.Plane.{boxMargin, minOf, maxOf, sideOf, isEdge, inRange, inBoundingBox, onSegment}
 
--- ---- in_range and in_bounding_box: where the first test fails its flag is the answer, and otherwise the second's
+-- In each, where the first test fails its flag is the answer, and otherwise the second's.
+
+-- ---- in_range and in_bounding_box
 module _ (v a b : Float) {m : Float} (hm : m ≡ minOf a b) where
   pub range-low : le (sub binary32 m boxMargin) v ≡ false → le (sub binary32 m boxMargin) v ≡ inRange v a b
   unfolding inRange
@@ -33,21 +32,12 @@ pub ruleset boxes = (box-x, box-y)
 
 -- ---- on_segment
 module _ (p a b : Vec2) {i : Bool} (hi : i ≡ inBoundingBox p a b) where
-  pub segment-outside : not i ≡ true → false ≡ onSegment p a b
+  pub segment-box : i ≡ false → i ≡ onSegment p a b
   unfolding onSegment
-  segment-outside t = rw (sym hi ∙ not-true i t)
+  segment-box t = t ∙ rw (sym hi ∙ t)
 
-  module _ (t : not i ≡ false) {s : EdgeSide} (hs : s ≡ sideOf p a b) where
-    pub segment-edge : s ≡ Edge → true ≡ onSegment p a b
-    unfolding onSegment
-    segment-edge e = rw (sym hi ∙ not-false i t, sym hs ∙ e)
+  pub segment-edge : {e : Bool} → e ≡ isEdge (sideOf p a b) → i ≡ true → e ≡ onSegment p a b
+  unfolding onSegment
+  segment-edge he t = he ∙ rw (sym hi ∙ t)
 
-    pub segment-left : s ≡ Left → false ≡ onSegment p a b
-    unfolding onSegment
-    segment-left e = rw (sym hi ∙ not-false i t, sym hs ∙ e)
-
-    pub segment-right : s ≡ Right → false ≡ onSegment p a b
-    unfolding onSegment
-    segment-right e = rw (sym hi ∙ not-false i t, sym hs ∙ e)
-
-pub ruleset segments = (segment-outside, segment-edge, segment-left, segment-right)
+pub ruleset segments = (segment-box, segment-edge)
