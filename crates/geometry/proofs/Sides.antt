@@ -1,6 +1,6 @@
 -- `side`, `is_left`, `is_edge` and `edge_test`: what each branch returns is what the definition says.
 use mathlib.Core.Path.{_≡_, refl, sym, ap, _∙_}
-use mathlib.Core.Bool.{Bool, true, false, not, true≢false, false≢true}
+use mathlib.Core.Bool.{Bool, true, false, not, cond}
 use borrow.Author.Tests.{not-true, not-false}
 use lib.Ieee.{Float, neg, lt, le}
 use Rattle.geometry.specs.declared.Vec2.{Vec2}
@@ -8,7 +8,7 @@ use Rattle.geometry.specs.declared.EdgeSide.{EdgeSide}
 use Rattle.geometry.specs.declared.EdgeSide.the-variants.{Edge, Left, Right}
 use Rattle.geometry.specs.declared.EdgeTest.the-variants.{Inside, Outside, Next}
 use Rattle.geometry.specs.Plane.{edgeWidth, subOf, perpDotOf, sideAt, sideOf, isLeft, isEdge, inBoundingBox}
-use Rattle.geometry.specs.Polygon.{edgeTestOf}
+use Rattle.geometry.specs.Polygon.{edgeTestAt, edgeTestOf}
 use Rattle.geometry.proofs.SideRanges.{in-left, in-edge, in-right}
 
 -- ---- side: the ranges of the cross product are the definition's answers
@@ -20,12 +20,11 @@ module _ (p a b : Vec2) {d e : Vec2} {c : Float} (hd : d ≡ subOf b a) (he : e 
   pub side-left : le edgeWidth c ≡ true → Left ≡ sideOf p a b
   side-left l = sym (in-left c l) ∙ of-cross
 
-  module _ (l : le edgeWidth c ≡ false) where
-    pub side-edge : lt (neg edgeWidth) c ≡ true → Edge ≡ sideOf p a b
-    side-edge m = sym (in-edge c l m) ∙ of-cross
+  pub side-edge : le edgeWidth c ≡ false → lt (neg edgeWidth) c ≡ true → Edge ≡ sideOf p a b
+  side-edge l m = sym (in-edge c l m) ∙ of-cross
 
-    pub side-right : lt (neg edgeWidth) c ≡ false → Right ≡ sideOf p a b
-    side-right m = sym (in-right c l m) ∙ of-cross
+  pub side-right : lt (neg edgeWidth) c ≡ false → Right ≡ sideOf p a b
+  side-right m = sym (in-right c m) ∙ of-cross
 
 pub ruleset sides = (side-left, side-edge, side-right)
 
@@ -39,42 +38,30 @@ module _ (p a b : Vec2) {s : EdgeSide} (hs : s ≡ sideOf p a b) where
 
 pub ruleset flags = (left-of, edge-of)
 
--- ---- edge_test: Left goes on, what is neither Left nor Edge is a no, and Edge is a yes in the box
-left-side : (s : EdgeSide) → isLeft s ≡ true → s ≡ Left
-left-side Left h = refl
-left-side Edge h = absurd (false≢true h)
-left-side Right h = absurd (false≢true h)
-
-edge-side : (s : EdgeSide) → isEdge s ≡ true → s ≡ Edge
-edge-side Edge h = refl
-edge-side Left h = absurd (false≢true h)
-edge-side Right h = absurd (false≢true h)
-
-right-side : (s : EdgeSide) → isLeft s ≡ false → isEdge s ≡ false → s ≡ Right
-right-side Right h g = refl
-right-side Left h g = absurd (true≢false h)
-right-side Edge h g = absurd (true≢false g)
+-- ---- edge_test: what the edge says, asked as the code asks it
+by-flags : (s : EdgeSide) (i : Bool) → edgeTestAt s i ≡ cond (isLeft s) Next (cond (isEdge s) (cond i Inside Next) Outside)
+by-flags Edge true = refl
+by-flags Edge false = refl
+by-flags Left i = refl
+by-flags Right i = refl
 
 module _ (p a b : Vec2) {l : Bool} (hl : l ≡ isLeft (sideOf p a b)) where
-  pub test-left : l ≡ true → Next ≡ edgeTestOf p a b
+  asked : edgeTestOf p a b ≡ cond l Next (cond (isEdge (sideOf p a b)) (cond (inBoundingBox p a b) Inside Next) Outside)
   unfolding edgeTestOf
-  test-left t = rw (left-side (sideOf p a b) (sym hl ∙ t))
+  asked = by-flags (sideOf p a b) (inBoundingBox p a b) ∙ rw hl
 
-  module _ {e : Bool} (he : e ≡ isEdge (sideOf p a b)) where
-    pub test-right : l ≡ false → not e ≡ true → Outside ≡ edgeTestOf p a b
-    unfolding edgeTestOf
-    test-right t u = rw (right-side (sideOf p a b) (sym hl ∙ t) (sym he ∙ not-true e u))
+  pub test-left : l ≡ true → Next ≡ edgeTestOf p a b
+  test-left t = sym (asked ∙ rw t)
+
+  module _ (t : l ≡ false) {e : Bool} (he : e ≡ isEdge (sideOf p a b)) where
+    pub test-right : not e ≡ true → Outside ≡ edgeTestOf p a b
+    test-right u = sym (asked ∙ rw (t, sym he ∙ not-true e u))
 
     module _ (u : not e ≡ false) {i : Bool} (hi : i ≡ inBoundingBox p a b) where
-      on-edge : sideOf p a b ≡ Edge
-      on-edge = edge-side (sideOf p a b) (sym he ∙ not-false e u)
-
       pub test-inside : i ≡ true → Inside ≡ edgeTestOf p a b
-      unfolding edgeTestOf
-      test-inside t = rw (on-edge, sym hi ∙ t)
+      test-inside v = sym (asked ∙ rw (t, sym he ∙ not-false e u, sym hi ∙ v))
 
       pub test-past : i ≡ false → Next ≡ edgeTestOf p a b
-      unfolding edgeTestOf
-      test-past t = rw (on-edge, sym hi ∙ t)
+      test-past v = sym (asked ∙ rw (t, sym he ∙ not-false e u, sym hi ∙ v))
 
 pub ruleset tests = (test-left, test-right, test-inside, test-past)
