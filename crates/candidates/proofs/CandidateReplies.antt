@@ -23,13 +23,14 @@ use Rattle.answers.specs.Replies.{Reply, replyOf, Replied, workTo, Worked}
 use Rattle.answers.proofs.Asking.{said-no, said-yes, q20-short, q20-fits, q20-yes}
 use Rattle.answers.proofs.Replying.{worked-refused, worked-narrow, worked-short, worked-written}
 use Rattle.ship.specs.Layout.{numberSize, decksIn}
+use Rattle.ship.specs.Model.{polygonTotal}
 use Rattle.ship.specs.Decode.{decode}
 use Rattle.touching.specs.Touching.{touches}
 use Rattle.touching.specs.Reach.{merged}
 use Rattle.touching.proofs.Reaching.{merged-few}
 use Rattle.survey.specs.declared.Seat.{Seat}
 use Rattle.numbering.specs.Numbers.{stepNumbers, stepMerged}
-use Rattle.candidates.specs.Candidates.{candidateCheck, foundPolygons, candidatePolygons, polygonTotal, candidatesWork, CandidatesWorked}
+use Rattle.candidates.specs.Candidates.{candidateCheck, foundPolygons, candidatePolygons, candidatesWork, CandidatesWorked}
 use Rattle.candidates.specs.Written.{NumbersWorked, ListFits, NumbersMerged, foundMerged}
 
 -- ---- a list of polygons
@@ -104,7 +105,7 @@ module _ (file : List ℕ) (deck : ℕ) {decks : ℕ} {there : Bool} (count : de
   pub deck-there : not there ≡ false → question17 (decksIn file) deck ≡ true
   deck-there t = rw count at (said-yes told t)
 
-pub call-wide : (file work : List ℕ) {total : ℕ} {fits : Bool} → total ≡ polygonTotal file → fits ≡ question20 (numberSize * total) (length work) → not fits ≡ false
+pub call-wide : (file work : List ℕ) {total : ℕ} {fits : Bool} → total ≡ polygonTotal (decode file) → fits ≡ question20 (numberSize * total) (length work) → not fits ≡ false
     → candidatesWork file ≤ length work
 call-wide file work {total} all said room = rw all at (q20-fits (numberSize * total) (length work) (said-yes said room))
 
@@ -112,7 +113,7 @@ module _ (file : List ℕ) (p : Vec2) (deck polygon : ℕ) (blocked : List ℕ) 
   pub call-refused : {number : ℕ} → c ≡ No number → CandidatesWorked file p deck polygon blocked out out work work (Refused number)
   call-refused e = worked-refused asked e
 
-  module _ (passed : c ≡ Passed) {total : ℕ} {fits : Bool} (all : total ≡ polygonTotal file) (said : fits ≡ question20 (numberSize * total) (length work)) where
+  module _ (passed : c ≡ Passed) {total : ℕ} {fits : Bool} (all : total ≡ polygonTotal (decode file)) (said : fits ≡ question20 (numberSize * total) (length work)) where
     pub call-narrow : not fits ≡ true → CandidatesWorked file p deck polygon blocked out out work work (Refused 20)
     call-narrow no-room = worked-narrow asked passed (rw all at (q20-short (numberSize * total) (length work) (said-no said no-room)))
 

@@ -16,6 +16,7 @@ use Rattle.answers.specs.Questions.{question17, question20}
 use Rattle.records.specs.declared.SeatRecord.{SeatRecord}
 use Rattle.records.specs.Record.{isUnplaced}
 use Rattle.ship.specs.Layout.{numberSize, decksIn}
+use Rattle.ship.specs.Model.{polygonTotal}
 use Rattle.ship.specs.Decode.{decode}
 use Rattle.survey.specs.declared.Seat.{Seat}
 use Rattle.survey.specs.Search.{seatRecord, candidates}
@@ -28,7 +29,7 @@ use Rattle.touching.specs.Reach.{merged}
 use Rattle.touching.proofs.Reaching.{merged-sound}
 use Rattle.numbering.specs.Numbers.{packedCandidate, stepNumbers, stepMerged}
 use Rattle.numbering.proofs.NumberLoop.{numbers-length}
-use Rattle.candidates.specs.Candidates.{candidateCheck, foundPolygons, polygonTotal, CandidatesMerged}
+use Rattle.candidates.specs.Candidates.{candidateCheck, foundPolygons, CandidatesMerged}
 use Rattle.candidates.specs.Written.{NumbersWorked, ListFits, FoundReady, foundMerged}
 use Rattle.candidates.proofs.CandidateAsks.{file-passed, query-asked}
 use Rattle.candidates.proofs.PolygonTotal.{numbers-few}
@@ -71,7 +72,7 @@ pub ruleset found-numbers = (found-ready, found-none, found-fits, found-some)
 
 -- ---- `candidate_polygons`
 pub call-ready : (file : List ℕ) (p : Vec2) (deck : ℕ) (blocked work : List ℕ) {c : Check} → c ≡ candidateCheck file p blocked → c ≡ Passed
-    → {total : ℕ} {fits : Bool} → total ≡ polygonTotal file → fits ≡ question20 (numberSize * total) (length work) → not fits ≡ false
+    → {total : ℕ} {fits : Bool} → total ≡ polygonTotal (decode file) → fits ≡ question20 (numberSize * total) (length work) → not fits ≡ false
     → {decks : ℕ} {there : Bool} → decks ≡ decksIn file → there ≡ question17 decks deck → not there ≡ false → FoundReady file p deck blocked work
 call-ready file p deck blocked work asked passed all said room count told t =
     record { passed = query-asked file p blocked asked passed deck (deck-there file deck count told t); wide = call-wide file work all said room }

@@ -4,11 +4,9 @@ use mathlib.Core.Bool.{cond}
 use mathlib.Core.List.{List, [], _∷_, map}
 use lib.Dec.{eqb}
 use lib.IntN.{ℤ}
-use lib.ListN.{length}
 use lib.Ieee.{Float}
 use Rattle.geometry.specs.declared.Vec2.{Vec2}
 use Rattle.words.specs.Bytes.{allOnes, bytes4}
-use Rattle.words.specs.Rows.{sumAll}
 use Rattle.answers.specs.declared.Check.{Check}
 use Rattle.answers.specs.declared.Check.the-variants.{Passed}
 use Rattle.answers.specs.declared.Answer.{Answer}
@@ -16,7 +14,7 @@ use Rattle.answers.specs.Checks.{ask, after}
 use Rattle.answers.specs.Questions.{question14, question17}
 use Rattle.answers.specs.Replies.{Reply, replyOf, Worked, WorkedCode}
 use Rattle.ship.specs.Layout.{numberSize, decksIn}
-use Rattle.ship.specs.Model.{deckOf}
+use Rattle.ship.specs.Model.{polygonTotal}
 use Rattle.ship.specs.Decode.{decode}
 use Rattle.ship.specs.Questions.{firstNo}
 use Rattle.calls.specs.Closest.{pointOfParts, question16, closestPoints}
@@ -41,11 +39,8 @@ abbrev pub candidatesReply : List ℕ → Vec2 → ℕ → ℕ → List ℕ → 
 candidatesReply file p deck polygon blocked = replyOf (candidateCheck file p blocked) bytes4 (candidatePolygons file p deck polygon blocked)
 
 -- 20 wants work of 4 bytes a polygon of all decks
-unfoldable pub polygonTotal : List ℕ → ℕ
-polygonTotal file = sumAll (λ d. length (deckOf (decode file) d .polygons)) 0 (decksIn file)
-
 abbrev pub candidatesWork : List ℕ → ℕ
-candidatesWork file = numberSize * polygonTotal file
+candidatesWork file = numberSize * polygonTotal (decode file)
 
 abbrev pub CandidatesWorked : List ℕ → Vec2 → ℕ → ℕ → List ℕ → List ℕ → List ℕ → List ℕ → List ℕ → Answer → Type 0
 CandidatesWorked file p deck polygon blocked out out′ work work′ r =

@@ -3,12 +3,10 @@ ghost use mathlib.Core.Path.{_≡_};
 ghost use mathlib.Core.List.{[], _∷_};
 ghost use Prim.Native.Nat.{_*_};
 ghost use lib.ListN.{length};
-ghost use Rattle.answers.specs.declared.Check.the-variants.{Passed};
 ghost use Rattle.answers.specs.Questions.{question20};
 ghost use Rattle.ship.specs.Layout.{numberSize};
-ghost use Rattle.ship.specs.Questions.{firstNo};
 ghost use Rattle.numbering.specs.Numbers.{stepMerged, StepCounted};
-ghost use Rattle.candidates.specs.Candidates.{candidateCheck, polygonTotal, CandidatesWorked, CandidatesMerged};
+ghost use Rattle.candidates.specs.Candidates.{candidateCheck, CandidatesWorked, CandidatesMerged};
 ghost use Rattle.candidates.specs.Written.{NumbersWorked, ListFits, NumbersMerged, FoundReady, foundMerged};
 use answers::Answer;
 use answers::Check;
@@ -36,22 +34,6 @@ fn candidate_check(file: &[u8], p: Vec2, blocked: &[u8]) -> Check
         return Check::No(16);
     }
     Check::Passed
-}
-
-// How many polygons all decks have.
-fn polygon_total(file: &[u8]) -> usize
-    requires { ⌜ firstNo (now file) ≡ Passed ⌝ }
-    ensures { λ r. ⌜ r ≡ polygonTotal (now (file .entry)) ⌝ }
-{
-    let decks = decks::deck_count(file);
-    let mut total: usize = 0;
-    let mut d: usize = 0;
-    'decks: while d < decks {
-        let b = decks::deck_blocks(file, d);
-        total += b.polygons;
-        d += 1;
-    }
-    total
 }
 
 // No polygon.
@@ -204,7 +186,7 @@ pub fn candidate_polygons(
         Check::No(number) => return Answer::Refused(number),
         Check::Passed => {}
     }
-    if !answers::room_for(NUMBER_SIZE, polygon_total(file), work.len()) {
+    if !answers::room_for(NUMBER_SIZE, decks::polygon_total(file), work.len()) {
         return Answer::Refused(20);
     }
     if polygon != 0xFFFF_FFFF {

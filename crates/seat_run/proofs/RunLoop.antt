@@ -25,7 +25,7 @@ use Rattle.survey.specs.declared.Seat.{Seat}
 use Rattle.survey.specs.Search.{seatRecord}
 use Rattle.walking.specs.Sees.{seenBy, SearchReady}
 use Rattle.seat_run.specs.SeatFile.{seatAt, seatCount, question16Seat}
-use Rattle.seat_run.specs.Run.{runCheck, runRecords, runReply, RecordsReady, RecordsPut}
+use Rattle.seat_run.specs.Run.{recordOfSeat, runCheck, runRecords, runReply, RecordsReady, RecordsPut}
 use Rattle.seat_run.specs.Survey.{Surveyed}
 use Rattle.seat_run.specs.Blocked.{BlockedUnplaced}
 use Rattle.seat_run.proofs.SeatAsks.{RunPassed, run-yes, run-blocked, seat-yes16, seat-inside}
@@ -33,52 +33,67 @@ use Rattle.seat_run.proofs.RunRecords.{run-at, run-length, reply-long}
 use Rattle.seat_run.proofs.SurveyTheorem.{surveyed}
 use Rattle.seat_run.proofs.BlockedTheorem.{blocked-unplaced}
 
+-- ---- `put_seat`
+module _ {file blocked : List ℕ} {table : List ℤ} {seats out : List ℕ} {i : ℕ} (ready : RecordsReady file blocked table seats out) (h : i < seatCount seats) where
+  asked : RunPassed file blocked seats
+  asked = run-yes file blocked seats (ready .passed)
+
+  pub seat-floats : question16Seat seats i ≡ true
+  seat-floats = seat-yes16 asked i h
+
+  pub seat-ready : {seat : Seat} → PointWithin 1000000 (seat .place) → SearchReady file blocked table seat
+  seat-ready p =
+      record {
+        file-ready = record { file-passed = asked .file-passed; table-is = ready .table-is };
+        blocked-long = run-blocked file blocked seats asked;
+        place-within = p;
+      }
+
+  pub seat-room : recordSize * i + recordSize ≤ length out
+  seat-room = omega (arith, ready .room)
+
+pub seat-record : (file blocked seats : List ℕ) (i : ℕ) {seat : Seat} {r : SeatRecord} → seat ≡ seatAt seats i
+    → r ≡ seatRecord (seenBy file blocked seat) (decode file .steps) → r ≡ recordOfSeat (decode file) blocked seats i
+seat-record file blocked seats i is placed = placed ∙ rw is
+
+pub ruleset seat-put = (seat-inside, seat-floats, seat-ready, seat-room, seat-record)
+
 -- ---- `put_records`: the records of the seats below i stand in the output, and the others are left
 pub record Recording (file blocked : List ℕ) (table : List ℤ) (seats out₀ out : List ℕ) (i : ℕ) : Type 0 where
-  pub passed : RunPassed file blocked seats
-  pub table-is : table ≡ directions
+  pub ready : RecordsReady file blocked table seats out
   pub room : recordSize * seatCount seats ≤ length out₀
   pub rest : Rest recordBytes recordSize noRecord out₀ 0 (runRecords file blocked seats) out i
 
 pub recording-all : {file blocked : List ℕ} {table : List ℤ} {seats out : List ℕ} → RecordsReady file blocked table seats out → Recording file blocked table seats out out 0
-recording-all {file} {blocked} {table} {seats} h = record { passed = run-yes file blocked seats (h .passed); table-is = h .table-is; room = h .room; rest = rest-all }
+recording-all h = record { ready = h; room = h .room; rest = rest-all }
 
 module _ {file blocked : List ℕ} {table : List ℤ} {seats out₀ out : List ℕ} {i n : ℕ} (t : Recording file blocked table seats out₀ out i) (e : n ≡ seatCount seats) where
   pub recording-none : n ≤ i → RecordsPut file blocked seats out₀ out
   recording-none h =
       rest-front (t .rest) record-length (omega (arith, run-length (decode file) blocked seats)) ∙ rw (run-length (decode file) blocked seats)
 
-  module _ (h : i < n) where
-    pub recording-floats : question16Seat seats i ≡ true
-    recording-floats = seat-yes16 (t .passed) i (omega arith)
+  pub recording-there : i < n → i < seatCount seats
+  recording-there h = omega arith
 
-    pub recording-ready : {seat : Seat} → PointWithin 1000000 (seat .place) → SearchReady file blocked table seat
-    recording-ready p =
-        record {
-          file-ready = record { file-passed = t .passed .file-passed; table-is = t .table-is };
-          blocked-long = run-blocked file blocked seats (t .passed);
-          place-within = p;
-        }
-
-    pub recording-room : recordSize * i + recordSize ≤ length out
-    recording-room = omega (arith, t .rest .long, t .room)
-
-    pub recording-more : {seat : Seat} {r : SeatRecord} {out′ : List ℕ} → seat ≡ seatAt seats i → r ≡ seatRecord (seenBy file blocked seat) (decode file .steps)
-        → out′ ≡ splice out (recordSize * i) (recordBytes r) → Recording file blocked table seats out₀ out′ (i + 1)
-    recording-more hs hr w =
-        let long = run-length (decode file) blocked seats in
-        record {
-          passed = t .passed;
-          table-is = t .table-is;
-          room = t .room;
-          rest =
-              rest-more-front (t .rest) record-length (omega arith) (omega (arith, t .room)) (hr ∙ rw hs (sym (run-at (decode file) blocked seats i (omega arith)))) refl w;
-        }
+  pub recording-more : {r : SeatRecord} {out′ : List ℕ} → i < n → r ≡ recordOfSeat (decode file) blocked seats i
+      → out′ ≡ splice out (recordSize * i) (recordBytes r) → Recording file blocked table seats out₀ out′ (i + 1)
+  recording-more h is w =
+      let long = run-length (decode file) blocked seats in
+      let more = rest-more-front (t .rest) record-length (omega arith) (omega (arith, t .room)) (is ∙ sym (run-at (decode file) blocked seats i (omega arith))) refl w in
+      record {
+        ready = record { passed = t .ready .passed; table-is = t .ready .table-is; room = omega (arith, t .room, more .long) };
+        room = t .room;
+        rest = more;
+      }
 
 pub recording-long : {file blocked : List ℕ} {table : List ℤ} {seats out₀ out : List ℕ} {i : ℕ} → Recording file blocked table seats out₀ out i → length out ≡ length out₀
 recording-long t = t .rest .long
 
-pub ruleset recording = (recording-all, recording-none, seat-inside, recording-floats, recording-ready, recording-room, recording-more, recording-long)
+pub recording-ready : {file blocked : List ℕ} {table : List ℤ} {seats out₀ out : List ℕ} {i : ℕ} → Recording file blocked table seats out₀ out i
+    → RecordsReady file blocked table seats out
+recording-ready t = t .ready
+
+pub ruleset recording = (recording-all, recording-none, recording-there, recording-more, recording-long, recording-ready)
 
 -- ---- `run`
 module _ (file blocked seats : List ℕ) {r : Check} (asked : r ≡ runCheck file blocked seats) (passed : r ≡ Passed) (out : List ℕ) {fits : Bool}

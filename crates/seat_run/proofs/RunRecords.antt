@@ -19,21 +19,21 @@ use Rattle.ship.specs.Decode.{decode}
 use Rattle.survey.specs.Search.{seatRecord}
 use Rattle.walking.specs.Sees.{view}
 use Rattle.seat_run.specs.SeatFile.{seatAt, seatCount, seatsOf}
-use Rattle.seat_run.specs.Run.{seatRun, runRecords, runReply}
+use Rattle.seat_run.specs.Run.{recordOfSeat, seatRun, runRecords, runReply}
 
 module _ (ship : Ship) (blocked seats : List ℕ) where
-  abbrev pub recordOfSeat : ℕ → SeatRecord
-  recordOfSeat i = seatRecord (view ship blocked (seatAt seats i)) (ship .steps)
+  abbrev each : ℕ → SeatRecord
+  each = recordOfSeat ship blocked seats
 
-  pub run-rows : seatRun ship blocked (seatsOf seats) ≡ rows recordOfSeat 0 (seatCount seats)
+  pub run-rows : seatRun ship blocked (seatsOf seats) ≡ rows each 0 (seatCount seats)
   unfolding seatRun
-  run-rows = map-rows (λ seat. seatRecord (view ship blocked seat) (ship .steps)) (seatAt seats) recordOfSeat (seatCount seats) 0 (λ j a b. refl)
+  run-rows = map-rows (λ seat. seatRecord (view ship blocked seat) (ship .steps)) (seatAt seats) each (seatCount seats) 0 (λ j a b. refl)
 
   pub run-length : length (seatRun ship blocked (seatsOf seats)) ≡ seatCount seats
-  run-length = rw run-rows (length-rows recordOfSeat (seatCount seats) 0)
+  run-length = rw run-rows (length-rows each (seatCount seats) 0)
 
-  pub run-at : (i : ℕ) → i < seatCount seats → getD (seatRun ship blocked (seatsOf seats)) i noRecord ≡ recordOfSeat i
-  run-at i h = let e : 0 + i ≡ i = omega arith in rw run-rows (rw e at (getD-rows recordOfSeat (seatCount seats) 0 i noRecord h))
+  pub run-at : (i : ℕ) → i < seatCount seats → getD (seatRun ship blocked (seatsOf seats)) i noRecord ≡ each i
+  run-at i h = let e : 0 + i ≡ i = omega arith in rw run-rows (rw e at (getD-rows each (seatCount seats) 0 i noRecord h))
 
 -- the bytes of a run's reply
 pub reply-long : (file blocked seats : List ℕ) → length (runReply file blocked seats .bytes) ≡ recordSize * seatCount seats

@@ -25,12 +25,12 @@ use Rattle.survey.specs.Survey.{SeatSurvey}
 use Rattle.survey.proofs.Steps.{steady}
 use Rattle.walking.specs.Sees.{sampleOn, placeOf, shownFrom, view}
 use Rattle.seat_run.specs.SeatFile.{seatAt, seatCount, seatsOf}
-use Rattle.seat_run.specs.Run.{runReply}
+use Rattle.seat_run.specs.Run.{recordOfSeat, runReply}
 use Rattle.seat_run.specs.Survey.{Each, Survey, Kept, Surveyed, SurveyedCode}
 use Rattle.seat_run.proofs.SeatReads.{seat-floats}
 use Rattle.seat_run.proofs.SeatAsks.{RunPassed, run-yes, run-passed, seat-yes16}
 use Rattle.seat_run.proofs.SeatSurveys.{wish-within, seat-surveyed, seat-once}
-use Rattle.seat_run.proofs.RunRecords.{recordOfSeat, run-length, reply-long, of-run, run-room, result-records, result-record, result-slice}
+use Rattle.seat_run.proofs.RunRecords.{run-length, reply-long, of-run, run-room, result-records, result-record, result-slice}
 
 -- ---- two lists, element by element
 module _ {A B : Type 0} (R : A → B → Type 0) (f : ℕ → A) where
@@ -51,12 +51,12 @@ module _ {A B : Type 0} (R : A → B → Type 0) (f : ℕ → A) where
       ap₂ _∷_ (h i (omega arith) (omega arith) x y (p .0) (q .0)) (each-once n (i + 1) (λ j a b. h j (omega arith) (omega arith)) l m (p .1) (q .1))
 
 -- ---- the survey of a list of seats
-abbrev Meets : Ship → List ℕ → Seat → SeatRecord → Type 0
+abbrev pub Meets : Ship → List ℕ → Seat → SeatRecord → Type 0
 Meets ship blocked seat r = SeatSurvey (view ship blocked seat) (ship .steps) r
 
 module _ (file blocked seats : List ℕ) (passed : RunPassed file blocked seats) where
   module _ (i : ℕ) (h : i < seatCount seats) where
-    listed-meets : Meets (decode file) blocked (seatAt seats i) (recordOfSeat (decode file) blocked seats i)
+    pub listed-meets : Meets (decode file) blocked (seatAt seats i) (recordOfSeat (decode file) blocked seats i)
     listed-meets =
         let q = seat-yes16 passed i h in
         seat-surveyed file (passed .file-passed) blocked (seatAt seats i) (seat-floats seats i q .at-within) (wish-within seats i q)

@@ -19,12 +19,16 @@ use Rattle.ship.specs.Questions.{firstNo}
 use Rattle.survey.specs.declared.Seat.{Seat}
 use Rattle.survey.specs.Search.{seatRecord}
 use Rattle.walking.specs.Sees.{view}
-use Rattle.seat_run.specs.SeatFile.{seatCount, seatsOf, question14Seats, seatCheck}
+use Rattle.seat_run.specs.SeatFile.{seatAt, seatCount, seatsOf, question14Seats, seatCheck}
 
 -- the questions of the run before 20, in their order; the seats' one seat after the other
 unfoldable pub runCheck : List ℕ → List ℕ → List ℕ → Check
 runCheck file blocked seats =
     after (firstNo file) (ask (question14Seats blocked seats) 14 (checkEach (seatCheck seats (decksIn file)) 0 (seatCount seats)))
+
+-- the record of seat i
+abbrev pub recordOfSeat : Ship → List ℕ → List ℕ → ℕ → SeatRecord
+recordOfSeat ship blocked seats i = seatRecord (view ship blocked (seatAt seats i)) (ship .steps)
 
 -- one record a seat, in list order
 unfoldable pub seatRun : Ship → List ℕ → List Seat → List SeatRecord

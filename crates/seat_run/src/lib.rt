@@ -1,21 +1,25 @@
 // The seat run (document 01, section 7).
 ghost use mathlib.Core.Path.{_≡_};
 ghost use mathlib.Core.Bool.{true, not};
-ghost use Prim.Native.Nat.{_+_, _*_, _≤_};
+ghost use Prim.Native.Nat.{_+_, _*_, _≤_, _<_};
 ghost use lib.Dec.{T};
 ghost use lib.ListN.{length};
 ghost use lib.Ieee.{binary32, nanBits};
 ghost use Rattle.geometry.specs.Bounds.{PointWithin};
+ghost use Rattle.words.specs.Bytes.{splice};
 ghost use Rattle.answers.specs.Checks.{checkEach};
+ghost use Rattle.records.specs.Record.{recordSize, recordBytes};
 ghost use Rattle.ship.specs.Floats.{inSize};
+ghost use Rattle.ship.specs.Decode.{decode};
 ghost use Rattle.seat_run.specs.SeatFile.{seatSize, seatWord, seatFloat, seatAt, seatCount, kindAllowed, question16Seat, seatCheck};
-ghost use Rattle.seat_run.specs.Run.{runCheck, RunReplied, RecordsReady, RecordsPut};
+ghost use Rattle.seat_run.specs.Run.{recordOfSeat, runCheck, RunReplied, RecordsReady, RecordsPut};
 ghost use Rattle.seat_run.specs.Survey.{Surveyed};
 ghost use Rattle.seat_run.specs.Blocked.{BlockedUnplaced};
 use answers::Answer;
 use answers::Check;
 use geometry::Vec2;
 use records::RECORD_SIZE;
+use records::SeatRecord;
 use survey::Seat;
 use survey::Wish;
 
@@ -120,7 +124,7 @@ fn seats_check(seats: &[u8], decks: usize) -> Check
 }
 
 // Questions 1 to 17 of the run.
-fn run_check(file: &[u8], blocked: &[u8], seats: &[u8]) -> Check
+pub fn run_check(file: &[u8], blocked: &[u8], seats: &[u8]) -> Check
     ensures { λ r. ⌜ r ≡ runCheck (now (file .entry)) (now (blocked .entry)) (now (seats .entry)) ⌝ }
 {
     match ship::first_no(file) {
@@ -136,6 +140,24 @@ fn run_check(file: &[u8], blocked: &[u8], seats: &[u8]) -> Check
     seats_check(seats, decks::deck_count(file))
 }
 
+// Seat i is placed, and its record written at its place in the output.
+pub fn put_seat(
+    file: &[u8],
+    blocked: &[u8],
+    table: &[i32; 2432],
+    seats: &[u8],
+    i: usize,
+    out: &mut [u8],
+) -> SeatRecord
+    requires { ⌜ RecordsReady (now file) (now blocked) (now table) (now seats) (now out) × (i < seatCount (now seats)) ⌝ }
+    ensures { λ r. ⌜ (r ≡ recordOfSeat (decode (now (file .entry))) (now (blocked .entry)) (now (seats .entry)) i)
+        × (now (out .exit) ≡ splice (now (out .entry)) (recordSize * i) (recordBytes r)) ⌝ }
+{
+    let record = placing::place_seat(file, blocked, table, seat_at(seats, i));
+    records::put_record(out, i, record);
+    record
+}
+
 // One record a seat, in list order.
 fn put_records(file: &[u8], blocked: &[u8], table: &[i32; 2432], seats: &[u8], out: &mut [u8])
     requires { ⌜ RecordsReady (now file) (now blocked) (now table) (now seats) (now out) ⌝ }
@@ -147,8 +169,7 @@ fn put_records(file: &[u8], blocked: &[u8], table: &[i32; 2432], seats: &[u8], o
     'seats: while i < count {
         let seat = i;
         i += 1;
-        let record = placing::place_seat(file, blocked, table, seat_at(seats, seat));
-        records::put_record(out, seat, record);
+        put_seat(file, blocked, table, seats, seat, out);
     }
 }
 

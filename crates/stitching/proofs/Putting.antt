@@ -3,7 +3,7 @@ use Prim.Native.Nat.{ℕ, _+_, _*_, _/_, _^_, _≤_, _<_}
 use native.Mathlib.Omega.{arith}
 use mathlib.Core.Path.{_≡_, refl, sym, ap, _∙_}
 use mathlib.Core.Bool.{true, false}
-use mathlib.Core.List.{List, [], _∷_, _++_, append-assoc}
+use mathlib.Core.List.{List, [], _∷_, _++_}
 use mir.Syntax.{w64}
 use mir.Val.{Fits}
 use lib.ListN.{length, length-append}
@@ -12,7 +12,7 @@ use Rattle.geometry.specs.declared.Vec2.{Vec2}
 use Rattle.geometry.proofs.Bounds.{not-nan}
 use Rattle.words.specs.Bytes.{bytes4, joined, wordsOf, splice}
 use Rattle.words.proofs.Splice.{length-splice, splice-splice, splice-nil}
-use Rattle.words.proofs.Writing.{length-joined}
+use Rattle.words.proofs.Writing.{length-joined, joined-append}
 use Rattle.stitching.specs.Points.{StitchPoint, samePoint, stitchSize, stitchBytes}
 use Rattle.stitching.specs.Walk.{stitchPoint, largest, counted, StitchesPut}
 
@@ -33,11 +33,6 @@ length-stitch p = refl
 
 pub length-stitches : (l : List StitchPoint) → length (joined stitchBytes l) ≡ stitchSize * length l
 length-stitches = length-joined stitchBytes stitchSize length-stitch
-
-joined-append : (l m : List StitchPoint) → joined stitchBytes (l ++ m) ≡ joined stitchBytes l ++ joined stitchBytes m
-unfolding joined
-joined-append [] m = refl
-joined-append (p ∷ l) m = rw (joined-append l m) (sym (append-assoc (stitchBytes p) (joined stitchBytes l) (joined stitchBytes m)))
 
 -- ---- `put_point`
 module _ (out : List ℕ) (n a b : ℕ) (p : Vec2) where

@@ -1,5 +1,5 @@
 -- Laws of `keptOf`: of lists in a row, and what a second removal keeps.
-use Prim.Native.Nat.{ℕ, zero, suc, _+_}
+use Prim.Native.Nat.{ℕ, _+_}
 use native.Mathlib.Omega.{arith}
 use mathlib.Core.Path.{_≡_, refl, sym, ap, _∙_}
 use mathlib.Core.Bool.{Bool, true, false, not, _&&_, _||_, cond}
@@ -8,21 +8,11 @@ use lib.Dec.{eqb}
 use borrow.Author.Tests.{eqb-true, eqb-false, eq-eqb, ne-eqb}
 use Rattle.words.specs.Bytes.{allOnes}
 use Rattle.words.specs.Rows.{rows}
+use Rattle.words.proofs.TableRows.{rows-append}
 use Rattle.ship.specs.Packed.{packedDeck, packedPolygon}
 use Rattle.unstitched.specs.declared.Stitches.{Stitches}
 use Rattle.unstitched.specs.declared.Stitches.the-variants.{All, ToLayer}
 use Rattle.unstitched.specs.Removal.{keepsPolygon, keeps, plainIn, writtenAs, keptOf, outsideOf, keptTwice}
-
-rows-append : {A : Type 0} (f : ℕ → A) (i m n : ℕ) → rows f i (m + n) ≡ rows f i m ++ rows f (i + m) n
-unfolding rows
-rows-append f i zero n =
-    let a : 0 + n ≡ n = omega arith in
-    let b : i + 0 ≡ i = omega arith in
-    rw (a, b)
-rows-append f i (suc m) n =
-    let a : suc m + n ≡ suc (m + n) = omega arith in
-    let b : i + suc m ≡ i + 1 + m = omega arith in
-    rw (a, b) (rw (rows-append f (i + 1) m n))
 
 module _ (which : Stitches) (d : ℕ) where
   -- ---- one entry

@@ -3,11 +3,12 @@ use Prim.Native.Nat.{ℕ, zero, suc, _+_, _*_, _≤_, _<_}
 use native.Mathlib.Omega.{arith}
 use mathlib.Core.Path.{_≡_, refl, ap, _∙_}
 use mathlib.Core.Bool.{true}
-use mathlib.Core.List.{List, [], _∷_, _++_, append-assoc}
+use mathlib.Core.List.{List, [], _∷_, _++_}
 use lib.ListN.{length, getD}
 use borrow.Author.Tests.{eq-eqb}
-use Rattle.words.specs.Bytes.{joined, wordsOf}
+use Rattle.words.specs.Bytes.{bytes4, joined, wordsOf}
 use Rattle.words.specs.Rows.{collect, collectAll, sumOf, sumAll}
+use Rattle.words.proofs.Writing.{joined-append}
 use Rattle.ship.specs.declared.Extent.{Extent}
 use Rattle.ship.specs.Questions.{endToEnd}
 use Rattle.unstitched.specs.NewFile.{pairs}
@@ -59,11 +60,6 @@ pairs-append at (n ∷ xs) ys =
     let e : at + (n + total xs) ≡ at + n + total xs = omega arith in
     rw e (rw (pairs-append (at + n) xs ys))
 
-words-append : (xs ys : List ℕ) → wordsOf (xs ++ ys) ≡ wordsOf xs ++ wordsOf ys
-unfolding joined
-words-append [] ys = refl
-words-append (x ∷ xs) ys = rw (words-append xs ys) (simp append-assoc)
-
 -- the words of the pairs of each number's lengths, which begin at that number's place
 pub pairs-rows : (place : ℕ → ℕ) (lengths : ℕ → List ℕ) (i n : ℕ) → ((k : ℕ) → i ≤ k → k < i + n → place (k + 1) ≡ place k + total (lengths k))
     → wordsOf (pairs (place i) (collectAll lengths i n)) ≡ collectAll (λ k. wordsOf (pairs (place k) (lengths k))) i n
@@ -73,5 +69,5 @@ pairs-rows place lengths i (suc n) e =
     let first = e i (omega arith) (omega arith) in
     let later = pairs-rows place lengths (i + 1) n (λ k a l. e k (omega arith) (omega arith)) in
     ap wordsOf (pairs-append (place i) (lengths i) (collectAll lengths (i + 1) n))
-    ∙ words-append (pairs (place i) (lengths i)) (pairs (place i + total (lengths i)) (collectAll lengths (i + 1) n))
+    ∙ joined-append bytes4 (pairs (place i) (lengths i)) (pairs (place i + total (lengths i)) (collectAll lengths (i + 1) n))
     ∙ ap (λ (r : List ℕ). wordsOf (pairs (place i) (lengths i)) ++ r) (rw (← first) later)

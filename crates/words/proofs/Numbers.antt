@@ -1,12 +1,12 @@
 -- Numbers of four bytes, one after the other: their length, what is read back, one that is put at a place.
 use Prim.Native.Nat.{ℕ, zero, suc, _+_, _*_, _/_, _%_, _<_, _≤_}
 use native.Mathlib.Omega.{arith}
-use native.Mathlib.Nat.{add-assoc}
-use mathlib.Core.Path.{_≡_, refl, sym, _∙_}
+use native.Mathlib.Nat.{add-assoc, mul-suc}
+use mathlib.Core.Path.{_≡_, sym, ap, _∙_}
 use mathlib.Core.Logic.{_⊎_, inl, inr}
 use mathlib.Core.List.{List, [], _∷_, _++_, append-assoc}
 use lib.ListN.{length, getD, drop, set}
-use lib.Seq.{take-append-add, drop-append-add, getD-append-add}
+use lib.Seq.{take-append-add, drop-append-seam, drop-append-add, getD-append-add}
 use Rattle.words.specs.Bytes.{byteAt, u32At, numberAt, bytes4, joined, wordsOf, splice, putU32}
 use Rattle.words.proofs.Splice.{length-splice, getD-splice-before, u32At-splice-before, u32At-splice-after, u32At-bytes4}
 use Rattle.words.proofs.Writing.{length-bytes4, length-joined}
@@ -23,7 +23,7 @@ splice-front s xs = let e : 0 + length xs ≡ length xs = omega arith in rw e
 pub word-back : (x : ℕ) → x % 256 + 256 * (x / 256 % 256) + 65536 * (x / 65536 % 256) + 16777216 * (x / 16777216) ≡ x
 word-back x = omega arith
 
-u32At-past : (p q : List ℕ) (at : ℕ) → u32At (p ++ q) (length p + at) ≡ u32At q at
+pub u32At-past : (p q : List ℕ) (at : ℕ) → u32At (p ++ q) (length p + at) ≡ u32At q at
 unfolding u32At
 u32At-past p q at = simp (add-assoc, getD-append-add)
 
@@ -37,23 +37,31 @@ words-read (x ∷ l) t zero h = word-back x
 words-read (x ∷ l) t (suc k) h = rw (next k x) (u32At-past (bytes4 x) (wordsOf l ++ t) (4 * k) ∙ words-read l t k (omega arith))
 
 -- ---- written over
-splice-past : (p s : List ℕ) (at : ℕ) (xs : List ℕ) → splice (p ++ s) (length p + at) xs ≡ p ++ splice s at xs
+pub splice-past : (p s : List ℕ) (at : ℕ) (xs : List ℕ) → splice (p ++ s) (length p + at) xs ≡ p ++ splice s at xs
 unfolding splice
 splice-past p s at xs =
     let e : length p + at + length xs ≡ length p + (at + length xs) = omega arith in
     rw (e, take-append-add, drop-append-add) (simp append-assoc)
 
-splice-first : (x y : ℕ) (s : List ℕ) → splice (bytes4 y ++ s) 0 (bytes4 x) ≡ bytes4 x ++ s
-unfolding splice bytes4
-splice-first x y s = refl
+splice-first : (xs ys s : List ℕ) → length xs ≡ length ys → splice (ys ++ s) 0 xs ≡ xs ++ s
+unfolding splice
+splice-first xs ys s e = let z : 0 + length xs ≡ length ys = omega arith in rw z (ap (λ (r : List ℕ). xs ++ r) (drop-append-seam ys s))
+
+-- of pieces of one size, the one at a place
+pub joined-write : {A : Type 0} (f : A → List ℕ) (size : ℕ) → ((x : A) → length (f x) ≡ size) → (l : List A) (t : List ℕ) (k : ℕ) (x : A) → k < length l
+    → splice (joined f l ++ t) (size * k) (f x) ≡ joined f (set l k x) ++ t
+unfolding joined
+joined-write f size sz [] t k x h = absurd (omega arith)
+joined-write f size sz (y ∷ l) t zero x h =
+    let z : size * 0 ≡ 0 = omega arith in
+    rw (append-assoc, z) (splice-first (f x) (f y) (joined f l ++ t) (omega (arith, sz x, sz y)) ∙ sym (append-assoc (f x) (joined f l) t))
+joined-write f size sz (y ∷ l) t (suc k) x h =
+    let e : size * suc k ≡ length (f y) + size * k = mul-suc size k ∙ omega (arith, sz y) in
+    rw (append-assoc, e)
+    (splice-past (f y) (joined f l ++ t) (size * k) (f x) ∙ rw (joined-write f size sz l t k x (omega arith)) (sym (append-assoc (f y) (joined f (set l k x)) t)))
 
 pub words-write : (l t : List ℕ) (k x : ℕ) → k < length l → putU32 (wordsOf l ++ t) (4 * k) x ≡ wordsOf (set l k x) ++ t
-unfolding joined
-words-write [] t k x h = absurd (omega arith)
-words-write (y ∷ l) t zero x h = rw append-assoc (splice-first x y (wordsOf l ++ t) ∙ sym (append-assoc (bytes4 x) (wordsOf l) t))
-words-write (y ∷ l) t (suc k) x h =
-    rw (append-assoc, next k y)
-    (splice-past (bytes4 y) (wordsOf l ++ t) (4 * k) (bytes4 x) ∙ rw (words-write l t k x (omega arith)) (sym (append-assoc (bytes4 y) (wordsOf (set l k x)) t)))
+words-write = joined-write bytes4 4 length-bytes4
 
 -- ---- a number that is put at a place
 pub record PutAt (list list′ : List ℕ) (i x : ℕ) : Type 0 where

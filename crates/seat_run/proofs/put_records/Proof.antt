@@ -19,14 +19,8 @@ seats-holds c = search (recording, needs)
 add-i : tie.Need-add-i Inv-seats μ-seats
 add-i c = search (recording, needs)
 
-seat-at-requires : tie.Need-seat-at-requires Inv-seats μ-seats
-seat-at-requires c κs = search (recording, needs)
-
-place-seat-requires : tie.Need-place-seat-requires Inv-seats μ-seats
-place-seat-requires c κs = search (recording, needs)
-
-put-record-requires : tie.Need-put-record-requires Inv-seats μ-seats
-put-record-requires c κs = search (recording, needs)
+put-seat-requires : tie.Need-put-seat-requires Inv-seats μ-seats
+put-seat-requires c κs = search (recording, needs)
 
 seats-less : tie.Need-seats-less Inv-seats μ-seats
 seats-less c = search (recording, needs)
@@ -48,9 +42,7 @@ put-records-spec =
     μ-seats
     seats-holds
     add-i
-    seat-at-requires
-    place-seat-requires
-    put-record-requires
+    put-seat-requires
     seats-less
     seats-again
     same-length

@@ -1,18 +1,15 @@
--- `polygon_total` meets its contract. The loop's invariant: the total is that of the decks passed.
+-- `polygons_before` meets its contract. The loop's invariant: the total is that of the decks passed.
 use Prim.Native.Nat.{_-_, _≤_}
 use borrow.Author.Needs.{needs}
-use Rattle.candidates.proofs.PolygonTotal.{Totalled, totals}
-use Rattle.candidates.proofs.polygon_total.Statement.{statement}
-use Rattle.candidates.proofs.polygon_total.Tie as tie
+use Rattle.decks.proofs.PolygonTotal.{Totalled, totals}
+use Rattle.decks.proofs.polygons_before.Statement.{statement}
+use Rattle.decks.proofs.polygons_before.Tie as tie
 
 abbrev Inv-decks : tie.InvT-decks
-Inv-decks file decks total₀ d₀ total d = (d ≤ decks) × Totalled file total d
+Inv-decks file d total₀ j₀ total j = (j ≤ d) × Totalled file d total j
 
 abbrev μ-decks : tie.MeasureT-decks
-μ-decks file decks total₀ d₀ total d = decks - d
-
-deck-count-requires : tie.Need-deck-count-requires Inv-decks μ-decks
-deck-count-requires c κs = search (totals, needs)
+μ-decks file d total₀ j₀ total j = d - j
 
 decks-holds : tie.Need-decks-holds Inv-decks μ-decks
 decks-holds c = search (totals, needs)
@@ -23,8 +20,8 @@ deck-blocks-requires c κs = search (totals, needs)
 add-total : tie.Need-add-total Inv-decks μ-decks
 add-total c = search (totals, needs)
 
-add-d : tie.Need-add-d Inv-decks μ-decks
-add-d c = search (totals, needs)
+add-j : tie.Need-add-j Inv-decks μ-decks
+add-j c = search (totals, needs)
 
 decks-less : tie.Need-decks-less Inv-decks μ-decks
 decks-less c = search (totals, needs)
@@ -35,17 +32,16 @@ decks-again c = search (totals, needs)
 returns : tie.Need-returns Inv-decks μ-decks
 returns c = search (totals, needs)
 
-pub polygon-total-spec : {M : Type 1} → statement M
-polygon-total-spec =
+pub polygons-before-spec : {M : Type 1} → statement M
+polygons-before-spec =
     tie.close
     (tie.spec
     Inv-decks
     μ-decks
-    deck-count-requires
     decks-holds
     deck-blocks-requires
     add-total
-    add-d
+    add-j
     decks-less
     decks-again
     returns)
