@@ -1,6 +1,6 @@
 SHELL := bash
 .SHELLFLAGS := -o pipefail -c
-.PHONY: demo test compare bench lib c-example rust-test
+.PHONY: demo test compare bench lib c-example rust-test load-sheets
 
 # What `rt` says of each crate goes to standard error as it comes, and what the prover says only where the check fails.
 demo:
@@ -27,7 +27,7 @@ lib:
 	@cp include/seats.h target/include/seats.h
 	@echo "library: target/lib/libseats.a, header: target/include/seats.h"
 
-# Both use the library of the folder FEEDERCOIL_LIB, by default the one that `make lib` wrote.
+# These use the library of the folder FEEDERCOIL_LIB, by default the one that `make lib` wrote.
 lib_folder = $(abspath $(or $(FEEDERCOIL_LIB),target/lib))
 have_lib = test -f "$(lib_folder)/libseats.a" || { echo "make: no libseats.a in $(lib_folder): run 'make lib' first" >&2; exit 2; }
 
@@ -42,3 +42,9 @@ rust-test:
 	@command -v cargo >/dev/null || { echo "make: 'cargo', of the Rust tools, is not on the PATH" >&2; exit 2; }
 	@$(have_lib)
 	cd rust && FEEDERCOIL_LIB="$(lib_folder)" cargo test --offline
+
+# Load sheets of random ships, counted anew from their records by a program that shares no code with the crates.
+load-sheets:
+	@command -v cargo >/dev/null || { echo "make: 'cargo', of the Rust tools, is not on the PATH" >&2; exit 2; }
+	@$(have_lib)
+	cd rust && FEEDERCOIL_LIB="$(lib_folder)" cargo run --quiet --offline --example load_sheets | python3 ../tools/load_sheet.py runs

@@ -4,13 +4,14 @@
  *
  * What a caller sees to:
  * - A pointer is valid for its length, for reading, and for writing where it is not const. It is not null, also where the length is 0.
- * - What is written to (out, work) overlaps no other slice of the call, and nothing else touches any slice before the call returns.
+ * - What is written to (out, table, work) overlaps no other slice of the call, and nothing else touches any slice before the call
+ *   returns.
  * - The floating-point environment is the default one: round to nearest, subnormal numbers kept.
  * Any bytes and any numbers may be passed; a float may be a NaN.
  *
  * What a call returns and leaves:
- * - Not negative: how many entries it wrote at the front of out (removal: how many bytes). Output past them is left as it was,
- *   and work is all zeros.
+ * - Not negative: how many entries it wrote at the front of out (removal: how many bytes). Output past them, and a table past its
+ *   counts, are left as they were, and work is all zeros.
  * - Negative: minus the number, 1 to 20 or 22, of the first question that the input does not pass. Nothing lent is altered.
  * - No memory is allocated and nothing is kept between calls, so calls may run in several threads. A call takes up to some 80 KiB
  *   of stack.
@@ -36,8 +37,11 @@
 #define SEATS_POLYGON_SIZE 4
 #define SEATS_LABEL_SIZE 4
 #define SEATS_STITCH_SIZE 16
-/* Bytes of work a polygon. */
+/* Bytes of a count of a load sheet (uint64_t). */
+#define SEATS_COUNT_SIZE 8
+/* Bytes of work a polygon, and those of a run with a load sheet. */
 #define SEATS_WORK_SIZE 4
+#define SEATS_LOADS_WORK_SIZE 8
 
 /* All ones: no deck is named; no polygon; in a ship file, the outside. */
 #define SEATS_ANY_DECK UINT32_C(0xFFFFFFFF)
@@ -54,6 +58,16 @@ extern "C" {
  * Returns the number of seats. */
 int64_t seats_run(const uint8_t *file, size_t file_len, const uint8_t *blocked, size_t blocked_len, const uint8_t *seats,
                   size_t seats_len, uint8_t *out, size_t out_len);
+
+/* The seat run, with a load sheet beside the records: how many seats stand where. Writes the records, as above, and returns their
+ * number. For a ship of N polygons on L decks it writes 2 * N + L + 1 counts at the front of table, SEATS_COUNT_SIZE bytes each,
+ * little-endian: each polygon's seats, decks rising; again one a polygon, where a label's place has its island's seats and every
+ * other place 0; each deck's seats; last the unplaced. Labels are those of seats_islands, and every deck has to have them, also one
+ * that is blocked or has no seat: 19 otherwise.
+ * Work: SEATS_LOADS_WORK_SIZE bytes a polygon of all decks, also where there are no seats. */
+int64_t seats_run_loads(const uint8_t *file, size_t file_len, const uint8_t *blocked, size_t blocked_len, const uint8_t *seats,
+                        size_t seats_len, uint8_t *out, size_t out_len, uint8_t *table, size_t table_len, uint8_t *work,
+                        size_t work_len);
 
 /* The candidates around a point: all polygons of the first step of the search that has a hit.
  * Writes SEATS_CANDIDATE_SIZE bytes each: polygon, x, y (f32). Returns how many; at most as many as the ship has polygons. */

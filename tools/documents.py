@@ -16,6 +16,9 @@ STATEMENTS = {
     "B": "crates/seat_run/specs/Survey.antt",
     "C": "crates/seat_run/specs/Blocked.antt",
     "D": "crates/towards/specs/Statement.antt",
+    "E": "crates/loads/specs/Sheet.antt",
+    "F": "crates/loads/specs/Totals.antt",
+    "G": "crates/loads/specs/Portions.antt",
 }
 DOCUMENTS = ["README.md"] + ["docs/%s" % name for name in sorted(os.listdir(os.path.join(ROOT, "docs"))) if name.endswith(".md")]
 

@@ -10,6 +10,20 @@ extern "C" {
         out: *mut u8,
         out_len: usize,
     ) -> i64;
+    pub fn seats_run_loads(
+        file: *const u8,
+        file_len: usize,
+        blocked: *const u8,
+        blocked_len: usize,
+        seats: *const u8,
+        seats_len: usize,
+        out: *mut u8,
+        out_len: usize,
+        table: *mut u8,
+        table_len: usize,
+        work: *mut u8,
+        work_len: usize,
+    ) -> i64;
     pub fn seats_closest_points(
         file: *const u8,
         file_len: usize,

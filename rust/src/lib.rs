@@ -40,6 +40,7 @@
 mod blocked;
 mod bytes;
 mod ffi;
+mod loads;
 mod plan;
 mod polygon;
 pub mod raw;
@@ -49,6 +50,7 @@ mod seat;
 mod ship;
 
 pub use blocked::BlockedDecks;
+pub use loads::{DeckLoads, LoadSheet};
 pub use plan::{DeckPlan, ShipPlan, VertexPlan};
 pub use polygon::PackedPolygon;
 pub use record::{Candidate, SeatRecord, StitchPoint};

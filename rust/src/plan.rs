@@ -140,7 +140,7 @@ enum Block {
 }
 
 /// The number of decks, where the file has room for their rows in the table.
-fn deck_count(file: &[u8]) -> Option<usize> {
+pub(crate) fn deck_count(file: &[u8]) -> Option<usize> {
     let decks = number_at(file, 0)? as usize;
     if decks > file.len() / (PAIR_SIZE * BLOCKS_PER_DECK) {
         return None;
@@ -169,6 +169,11 @@ pub(crate) fn polygon_count(file: &[u8], deck: usize) -> usize {
         Some(decks) if deck < decks => block(file, deck, Block::P).map_or(0, |p| p.len() / LIST_SIZE),
         _ => 0,
     }
+}
+
+/// How many polygons each deck has, where the file has room for the decks' rows in the table.
+pub(crate) fn polygon_counts(file: &[u8]) -> Option<Vec<usize>> {
+    Some((0..deck_count(file)?).map(|d| polygon_count(file, d)).collect())
 }
 
 /// How many polygons all decks have. Never more than the file has room for, whatever its table says.

@@ -1,8 +1,8 @@
-//! The library's calls on byte slices, with output and work lent by the caller.
+//! The library's calls on byte slices, with output, table and work lent by the caller.
 //!
 //! Each is one function of `include/seats.h` under its name there, without `seats_`. It says how many entries it wrote at the front
-//! of `out`, or the question that the input does not pass. Output past the answer is left as it was; a refusal alters nothing lent;
-//! after an answer `work` is all zeros. `deck` is [`ANY_DECK`] where none is named, and `polygon` is [`NO_POLYGON`].
+//! of `out`, or the question that the input does not pass. Output and table past the answer are left as they were; a refusal alters
+//! nothing lent; after an answer `work` is all zeros. `deck` is [`ANY_DECK`] where none is named, and `polygon` is [`NO_POLYGON`].
 use crate::ffi;
 use crate::Refusal;
 
@@ -22,8 +22,12 @@ pub const POLYGON_SIZE: usize = 4;
 pub const LABEL_SIZE: usize = 4;
 /// Bytes of a stitch point.
 pub const STITCH_SIZE: usize = 16;
+/// Bytes of a count of [`run_loads`].
+pub const COUNT_SIZE: usize = 8;
 /// Bytes of work a polygon.
 pub const WORK_SIZE: usize = 4;
+/// Bytes of work a polygon of [`run_loads`].
+pub const LOADS_WORK_SIZE: usize = 8;
 /// No deck is named: all ones.
 pub const ANY_DECK: u32 = u32::MAX;
 /// No polygon: all ones.
@@ -44,6 +48,29 @@ fn answer(code: i64) -> Result<usize, Refusal> {
 pub fn run(file: &[u8], blocked: &[u8], seats: &[u8], out: &mut [u8]) -> Result<usize, Refusal> {
     answer(unsafe {
         ffi::seats_run(file.as_ptr(), file.len(), blocked.as_ptr(), blocked.len(), seats.as_ptr(), seats.len(), out.as_mut_ptr(), out.len())
+    })
+}
+
+/// The seat run, with a load sheet beside the records. For a ship of N polygons on L decks the table takes 2·N + L + 1 counts,
+/// [`COUNT_SIZE`] bytes each: one a polygon, decks rising; again one a polygon, where a label's place has its island's seats and every
+/// other place 0; one a deck; the unplaced. [`LoadSheet::read`](crate::LoadSheet::read) reads them. Work: [`LOADS_WORK_SIZE`] bytes a
+/// polygon of all decks.
+pub fn run_loads(file: &[u8], blocked: &[u8], seats: &[u8], out: &mut [u8], table: &mut [u8], work: &mut [u8]) -> Result<usize, Refusal> {
+    answer(unsafe {
+        ffi::seats_run_loads(
+            file.as_ptr(),
+            file.len(),
+            blocked.as_ptr(),
+            blocked.len(),
+            seats.as_ptr(),
+            seats.len(),
+            out.as_mut_ptr(),
+            out.len(),
+            table.as_mut_ptr(),
+            table.len(),
+            work.as_mut_ptr(),
+            work.len(),
+        )
     })
 }
 

@@ -22,7 +22,7 @@ const SENTENCES: [&str; 22] = [
     "The ship does not have the named deck.",
     "The deck does not have the named polygon.",
     "A vertex of a polygon has a neighbour entry that is neither the outside nor a polygon of the deck.",
-    "The output is too short for this answer, or the work is shorter than 4 bytes a polygon.",
+    "The output or the table is too short for this answer, or the work is shorter than 4 bytes a polygon, of a load sheet 8.",
     "The input of seatlist is longer than 65,536 bytes, or too short for its file and its blocked set.",
     "The point is the one to go towards, or so near to it that their squared distance is 0.",
 ];

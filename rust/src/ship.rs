@@ -1,11 +1,13 @@
 use std::borrow::Cow;
 
 use crate::bytes::numbers;
-use crate::plan::{polygon_count, polygon_total};
+use crate::loads::sheet_size;
+use crate::plan::{deck_count, polygon_count, polygon_total};
 use crate::raw::{
-    self, ANY_DECK, CANDIDATE_SIZE, HEIGHT_SIZE, LABEL_SIZE, NO_POLYGON, POLYGON_SIZE, RECORD_SIZE, SEAT_SIZE, STITCH_SIZE, WORK_SIZE,
+    self, ANY_DECK, CANDIDATE_SIZE, HEIGHT_SIZE, LABEL_SIZE, LOADS_WORK_SIZE, NO_POLYGON, POLYGON_SIZE, RECORD_SIZE, SEAT_SIZE,
+    STITCH_SIZE, WORK_SIZE,
 };
-use crate::{seat_list, BlockedDecks, Candidate, PackedPolygon, Refusal, Seat, SeatRecord, ShipPlan, StitchPoint};
+use crate::{seat_list, BlockedDecks, Candidate, LoadSheet, PackedPolygon, Refusal, Seat, SeatRecord, ShipPlan, StitchPoint};
 
 /// No ship has more decks.
 const MOST_DECKS: usize = 256;
@@ -49,6 +51,24 @@ impl<'a> Ship<'a> {
         let mut out = vec![0; RECORD_SIZE * (seats.len() / SEAT_SIZE)];
         let count = raw::run(&self.file, blocked, seats, &mut out)?;
         Ok(SeatRecord::list(&out[..RECORD_SIZE * count]))
+    }
+
+    /// The seat run, with its load sheet: how many seats stand on each polygon, each island and each deck. Each deck has to have
+    /// island labels, also one that is blocked or has no seat: 19 otherwise. Sheets of portions of a list add to that of the whole
+    /// ([`LoadSheet::checked_add`]).
+    pub fn run_loads(&self, blocked: &BlockedDecks, seats: &[Seat]) -> Result<(Vec<SeatRecord>, LoadSheet), Refusal> {
+        self.run_list_loads(blocked.as_bytes(), &seat_list(seats))
+    }
+
+    /// The same on the bytes of a blocked set and of a seat list.
+    pub fn run_list_loads(&self, blocked: &[u8], seats: &[u8]) -> Result<(Vec<SeatRecord>, LoadSheet), Refusal> {
+        let polygons = polygon_total(&self.file);
+        let mut out = vec![0; RECORD_SIZE * (seats.len() / SEAT_SIZE)];
+        let mut table = vec![0; sheet_size(polygons, deck_count(&self.file).unwrap_or(0))];
+        let mut work = vec![0; LOADS_WORK_SIZE * polygons];
+        let count = raw::run_loads(&self.file, blocked, seats, &mut out, &mut table, &mut work)?;
+        let sheet = LoadSheet::read(&self.file, &table).expect("the table has the sheet's length");
+        Ok((SeatRecord::list(&out[..RECORD_SIZE * count]), sheet))
     }
 
     /// The polygons nearest to a point by the ring search: all candidates of the first step with a hit. Where the named deck is

@@ -48,7 +48,7 @@ fn in_header(argument: &str) -> Vec<String> {
 #[test]
 fn one_list() {
     let exports = functions(&text("../crates/seats/src/lib.rt"), "pub extern \"C\" fn ", exported);
-    assert!(exports.len() >= 12);
+    assert!(exports.len() >= 13);
     assert_eq!(functions(&text("src/ffi.rs"), "pub fn ", declared), exports);
     let header: String = text("../include/seats.h").split_whitespace().collect::<Vec<_>>().join(" ");
     // Each after a comment of its own.

@@ -5,7 +5,7 @@ use feedercoil::raw::{self, ANY_DECK, NO_POLYGON};
 use feedercoil::{Refusal, ShipPlan};
 
 fn needs_work(name: &str) -> bool {
-    name == "candidate_polygons" || name == "islands"
+    matches!(name, "candidate_polygons" | "islands" | "run_loads")
 }
 
 /// Every call with just enough room, with more, and with a byte less.
@@ -14,12 +14,13 @@ fn lend_each(plan: &ShipPlan) {
     let in_all: usize = plan.decks.iter().map(|d| d.polygons.len()).sum();
     for (name, size, call) in CALLS {
         let polygons = if name == "islands" { plan.decks[0].polygons.len() } else { in_all };
-        let work = if needs_work(name) { 4 * polygons } else { 0 };
+        let a_polygon = if name == "run_loads" { 8 } else { 4 };
+        let work = if needs_work(name) { a_polygon * polygons } else { 0 };
         let room = 16 * file.len();
         let (answer, wide, _) = lend(name, call, &file, room, work);
         let count = match answer {
             Ok(count) => count,
-            Err(Refusal(19)) if name == "islands" => continue,
+            Err(Refusal(19)) if name == "islands" || name == "run_loads" => continue,
             Err(refusal) => panic!("{name}: {refusal}"),
         };
         let bytes = size * count;
@@ -89,5 +90,8 @@ fn empty_slices() {
     let mut work = [LENT; 4];
     assert_eq!(raw::candidate_polygons(&file, 9.0, 9.0, ANY_DECK, NO_POLYGON, &[0; 32], &mut [], &mut work), Ok(0));
     assert_eq!(work, [0; 4], "work is cleared all the same");
+    let (mut table, mut work) = ([LENT; 32], [LENT; 8]);
+    assert_eq!(raw::run_loads(&file, &[0; 32], &[], &mut [], &mut table, &mut work), Ok(0));
+    assert_eq!((table, work), ([0; 32], [0; 8]), "and so is a sheet of no seats");
     assert_eq!(raw::closest_points(&file, 9.0, 9.0, ANY_DECK, &[], &mut []), Err(Refusal(14)));
 }

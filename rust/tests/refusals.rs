@@ -1,6 +1,6 @@
 //! Each question's number, by every call that asks it, and that a refusal alters nothing lent (`lend` sees to that).
 mod common;
-use common::{example, lend, one_polygon, passed_by_all, refused_by_all, square, still, Call, SQUARE};
+use common::{example, lend, one_polygon, passed_by_all, refused_by_all, square, still, with_table, Call, SQUARE};
 use feedercoil::raw::{self, ANY_DECK, NO_POLYGON};
 use feedercoil::{BlockedDecks, Candidate, DeckPlan, PackedPolygon, Refusal, Seat, Ship, ShipPlan, VertexPlan};
 
@@ -125,9 +125,10 @@ fn the_first_question_counts() {
 }
 
 /// Every call that takes a blocked set, with this one.
-fn blocked_of<const N: usize>() -> [(&'static str, Call); 4] {
+fn blocked_of<const N: usize>() -> [(&'static str, Call); 5] {
     [
         ("run", |file, out, _| raw::run(file, &[0; N], &[], out)),
+        ("run_loads", |file, out, work| with_table(file, |table| raw::run_loads(file, &[0; N], &[], out, table, work))),
         ("closest_points", |file, out, _| raw::closest_points(file, f32::NAN, 1.0, 9, &[0; N], out)),
         ("closest_point", |file, out, _| raw::closest_point(file, f32::NAN, 1.0, 9, &[0; N], out)),
         ("candidate_polygons", |file, out, work| raw::candidate_polygons(file, f32::NAN, 1.0, 9, 0, &[0; N], out, work)),
@@ -183,10 +184,14 @@ fn question_16() {
 #[test]
 fn questions_17_to_19() {
     let file = example().file();
-    let absent: [(&str, u32, Call); 8] = [
+    let absent: [(&str, u32, Call); 9] = [
         ("run", 17, |file, out, _| {
             let seat = feedercoil::seat_list(&[Seat { deck: Some(256), ..Seat::at(1.0, 1.0) }]);
             raw::run(file, &[0; 32], &seat, out)
+        }),
+        ("run_loads", 17, |file, out, work| {
+            let seat = feedercoil::seat_list(&[Seat { deck: Some(1), ..Seat::at(1.0, 1.0) }]);
+            with_table(file, |table| raw::run_loads(file, &[0; 32], &seat, out, table, work))
         }),
         ("closest_points", 17, |file, out, _| raw::closest_points(file, 1.0, 1.0, 1, &[0; 32], out)),
         ("closest_point", 17, |file, out, _| raw::closest_point(file, 1.0, 1.0, 256, &[0; 32], out)),
@@ -203,8 +208,10 @@ fn questions_17_to_19() {
     assert_eq!(raw::point_location(&file, 1.0, 1.0, 1), Ok(NO_POLYGON));
     assert_eq!(raw::point_layer(&file, 1.0, 1.0, 1, &mut []), Ok(0));
     let islands: Call = |file, out, work| raw::islands(file, 0, out, work);
+    let loads: Call = |file, out, work| with_table(file, |table| raw::run_loads(file, &[0; 32], &[], out, table, work));
     for entry in [1, 0x0100_0000, u32::MAX - 1] {
         assert_eq!(lend("islands", islands, &with(124, entry), 0, 0).0, Err(Refusal(19)));
+        assert_eq!(lend("run_loads", loads, &with(124, entry), 0, 0).0, Err(Refusal(19)));
     }
 }
 

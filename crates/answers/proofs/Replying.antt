@@ -13,7 +13,7 @@ use Rattle.answers.specs.declared.Answer.{Answer}
 use Rattle.answers.specs.declared.Answer.the-variants.{Refused, Wrote}
 use Rattle.answers.specs.Checks.{ask, after}
 use Rattle.answers.specs.Questions.{question20}
-use Rattle.answers.specs.Replies.{Reply, replyOf, replyCheck, answerFor, outputFor, answerTo, outputTo, Replied, codeOf, AnswerFits, RepliedCode, withWork, workFor, workTo, Worked, WorkedCode}
+use Rattle.answers.specs.Replies.{Reply, replyOf, replyCheck, answerFor, outputFor, answerTo, outputTo, Replied, codeOf, AnswerFits, RepliedCode, withRoom, workFor, workTo, Worked, WorkedCode, withTable, tableTo, Tabled, TabledCode}
 use Rattle.answers.proofs.Asking.{said-no, said-yes, asked-yes, both-passed, q20-no, q20-yes, q20-short, q20-fits}
 
 -- ---- the check with 20
@@ -156,7 +156,7 @@ module _ {reply : Reply} {wanted : ℕ} {out work : List ℕ} {c : Check} (asked
   unfolding answerTo outputTo workTo
   worked-refused {number} e =
       let n : after (reply .check) (ask (question20 wanted (length work)) 20 Passed) ≡ No number = rw (sym asked ∙ e) in
-      let k = check-refused (withWork reply wanted work) (length out) n in
+      let k = check-refused (withRoom reply wanted work) (length out) n in
       record { replied = replied-refused refl n; work-is = rw k }
 
   module _ (yes : c ≡ Passed) where
@@ -164,7 +164,7 @@ module _ {reply : Reply} {wanted : ℕ} {out work : List ℕ} {c : Check} (asked
     unfolding answerTo outputTo workTo
     worked-narrow l =
         let n : after (reply .check) (ask (question20 wanted (length work)) 20 Passed) ≡ No 20 = rw (sym asked ∙ yes, q20-no wanted (length work) l) in
-        let k = check-refused (withWork reply wanted work) (length out) n in
+        let k = check-refused (withRoom reply wanted work) (length out) n in
         record { replied = replied-refused refl n; work-is = rw k }
 
     module _ (wide : wanted ≤ length work) where
@@ -172,7 +172,7 @@ module _ {reply : Reply} {wanted : ℕ} {out work : List ℕ} {c : Check} (asked
       unfolding workTo
       worked-short l =
           let w = with-work (reply .check) wanted work (sym asked ∙ yes) wide in
-          let k = check-short (withWork reply wanted work) (length out) w l in
+          let k = check-short (withRoom reply wanted work) (length out) w l in
           record { replied = replied-short refl w l; work-is = rw k }
 
       pub worked-written : {out′ work′ : List ℕ} {n : ℕ} → length (reply .bytes) ≤ length out → n ≡ reply .count
@@ -181,14 +181,14 @@ module _ {reply : Reply} {wanted : ℕ} {out work : List ℕ} {c : Check} (asked
       unfolding workTo
       worked-written l e o z =
           let w = with-work (reply .check) wanted work (sym asked ∙ yes) wide in
-          let k = check-passed (withWork reply wanted work) (length out) w l in
+          let k = check-passed (withRoom reply wanted work) (length out) w l in
           record { replied = replied-written refl w l e o; work-is = z ∙ rw k }
 
 pub ruleset working = (worked-refused, worked-narrow, worked-short, worked-written)
 
 pub worked-length : {reply : Reply} {wanted : ℕ} {out out′ work work′ : List ℕ} {r : Answer} → Worked reply wanted out out′ work work′ r → length work′ ≡ length work
 unfolding workTo
-worked-length {reply} {wanted} {out} {work = work} w = ap length (w .work-is) ∙ go (replyCheck (withWork reply wanted work) (length out))
+worked-length {reply} {wanted} {out} {work = work} w = ap length (w .work-is) ∙ go (replyCheck (withRoom reply wanted work) (length out))
   where
     go : (k : Check) → length (workFor k work) ≡ length work
     go Passed = length-replicate (length work) 0
@@ -197,3 +197,69 @@ worked-length {reply} {wanted} {out} {work = work} w = ap length (w .work-is) �
 pub worked-code : {reply : Reply} {wanted : ℕ} {out out′ work work′ : List ℕ} {r : Answer} → Worked reply wanted out out′ work work′ r → {z : ℤ} → z ≡ codeOf r
     → WorkedCode reply wanted out out′ work work′ z
 worked-code w e = record { replied = replied-code (w .replied) e; work-is = w .work-is }
+
+-- ---- a call that is lent a table too
+-- 20 is asked three times, so where it is said first is no matter
+last-no : (table work : Bool) → after (after (ask table 20 Passed) (ask work 20 Passed)) (No 20) ≡ No 20
+last-no true true = refl
+last-no true false = refl
+last-no false work = refl
+
+middle-no : (table : Bool) (later : Check) → after (after (ask table 20 Passed) (No 20)) later ≡ No 20
+middle-no true later = refl
+middle-no false later = refl
+
+module _ {reply : Reply} {bytes : List ℕ} {wanted : ℕ} {out table work : List ℕ} where
+  tabled-no : {number : ℕ} → replyCheck (withTable reply bytes wanted table work) (length out) ≡ No number → Tabled reply bytes wanted out out table table work work (Refused number)
+  unfolding answerTo outputTo workTo tableTo
+  tabled-no e =
+      record { worked = record { replied = record { answer-is = rw e; output-is = rw e }; work-is = rw e }; table-is = rw e }
+
+  -- c is what the call's own check returned
+  module _ {c : Check} (asked : c ≡ reply .check) where
+    pub tabled-refused : {number : ℕ} → c ≡ No number → Tabled reply bytes wanted out out table table work work (Refused number)
+    tabled-refused e = tabled-no (check-refused (withTable reply bytes wanted table work) (length out) (rw (sym asked ∙ e)))
+
+    module _ (yes : c ≡ Passed) where
+      pub tabled-short : length out < length (reply .bytes) → Tabled reply bytes wanted out out table table work work (Refused 20)
+      unfolding replyCheck
+      tabled-short l =
+          tabled-no
+          (rw (sym asked ∙ yes, q20-no (length (reply .bytes)) (length out) l) (last-no (question20 (length bytes) (length table)) (question20 wanted (length work))))
+
+      pub tabled-narrow : length table < length bytes → Tabled reply bytes wanted out out table table work work (Refused 20)
+      unfolding replyCheck
+      tabled-narrow l = tabled-no (rw (sym asked ∙ yes, q20-no (length bytes) (length table) l))
+
+      pub tabled-idle : length work < wanted → Tabled reply bytes wanted out out table table work work (Refused 20)
+      unfolding replyCheck
+      tabled-idle l = tabled-no (rw (sym asked ∙ yes, q20-no wanted (length work) l) (middle-no (question20 (length bytes) (length table)) _))
+
+      pub tabled-written : length (reply .bytes) ≤ length out → length bytes ≤ length table → wanted ≤ length work → {out′ table′ work′ : List ℕ} {n : ℕ} → n ≡ reply .count
+          → out′ ≡ reply .bytes ++ drop (length (reply .bytes)) out → table′ ≡ bytes ++ drop (length bytes) table → work′ ≡ replicate (length work) 0
+          → Tabled reply bytes wanted out out′ table table′ work work′ (Wrote n)
+      unfolding replyCheck answerTo outputTo workTo tableTo
+      tabled-written lo lt lw count out-is table-is zeros =
+          let e : replyCheck (withTable reply bytes wanted table work) (length out) ≡ Passed =
+          rw (sym asked ∙ yes, q20-yes (length bytes) (length table) lt, q20-yes wanted (length work) lw, q20-yes (length (reply .bytes)) (length out) lo) in
+          record {
+            worked = record { replied = record { answer-is = rw (e, count); output-is = rw e out-is }; work-is = rw e zeros };
+            table-is = rw e table-is;
+          }
+
+pub ruleset tabling = (tabled-refused, tabled-short, tabled-narrow, tabled-idle, tabled-written)
+
+module _ {reply : Reply} {bytes : List ℕ} {wanted : ℕ} {out out′ table table′ work work′ : List ℕ} {r : Answer} (t : Tabled reply bytes wanted out out′ table table′ work work′ r) where
+  pub tabled-length : length table′ ≡ length table
+  unfolding tableTo
+  tabled-length = ap length (t .table-is) ∙ go (replyCheck (withTable reply bytes wanted table work) (length out)) refl
+    where
+      go : (k : Check) → replyCheck (withTable reply bytes wanted table work) (length out) ≡ k → length (outputFor k bytes table) ≡ length table
+      go Passed e =
+          let first = both-passed (reply .check) _ (both-passed _ _ (passed-check (withTable reply bytes wanted table work) (length out) e .0) .0) in
+          let l = q20-fits (length bytes) (length table) (asked-yes (question20 (length bytes) (length table)) 20 Passed (first .1) .0) in
+          simp (length-append, length-drop) (omega arith)
+      go (No number) e = refl
+
+  pub tabled-code : {z : ℤ} → z ≡ codeOf r → TabledCode reply bytes wanted out out′ table table′ work work′ z
+  tabled-code e = record { worked = worked-code (t .worked) e; table-is = t .table-is }

@@ -48,10 +48,10 @@ pub record Replied (reply : Reply) (out out′ : List ℕ) (answer : Answer) : T
   pub output-is : out′ ≡ outputTo reply out
 
 -- ---- a call that is lent work as well
--- 20 asks for so many bytes of it too
-abbrev pub withWork : Reply → ℕ → List ℕ → Reply
-withWork reply wanted work =
-    record { check = after (reply .check) (ask (question20 wanted (length work)) 20 Passed); count = reply .count; bytes = reply .bytes }
+-- 20 asks for so many bytes of what else is lent
+abbrev pub withRoom : Reply → ℕ → List ℕ → Reply
+withRoom reply wanted lent =
+    record { check = after (reply .check) (ask (question20 wanted (length lent)) 20 Passed); count = reply .count; bytes = reply .bytes }
 
 -- work is all zeros after an answer, the whole of it
 abbrev pub workFor : Check → List ℕ → List ℕ
@@ -62,8 +62,21 @@ unfoldable pub workTo : Reply → List ℕ → List ℕ → List ℕ
 workTo reply out work = workFor (replyCheck reply (length out)) work
 
 pub record Worked (reply : Reply) (wanted : ℕ) (out out′ work work′ : List ℕ) (answer : Answer) : Type 0 where
-  pub replied : Replied (withWork reply wanted work) out out′ answer
-  pub work-is : work′ ≡ workTo (withWork reply wanted work) out work
+  pub replied : Replied (withRoom reply wanted work) out out′ answer
+  pub work-is : work′ ≡ workTo (withRoom reply wanted work) out work
+
+-- ---- a call that is lent a table too, for bytes beside its entries
+-- 20 asks of both, so with the output of three
+abbrev pub withTable : Reply → List ℕ → ℕ → List ℕ → List ℕ → Reply
+withTable reply bytes wanted table work = withRoom (withRoom reply (length bytes) table) wanted work
+
+-- as with the output, a refusal alters nothing, and the table past these bytes is untouched
+unfoldable pub tableTo : Reply → List ℕ → List ℕ → List ℕ → List ℕ
+tableTo reply bytes out table = outputFor (replyCheck reply (length out)) bytes table
+
+pub record Tabled (reply : Reply) (bytes : List ℕ) (wanted : ℕ) (out out′ table table′ work work′ : List ℕ) (answer : Answer) : Type 0 where
+  pub worked : Worked (withRoom reply (length bytes) table) wanted out out′ work work′ answer
+  pub table-is : table′ ≡ tableTo (withTable reply bytes wanted table work) bytes out table
 
 -- ---- over C
 -- the count, or minus the question's number
@@ -81,5 +94,9 @@ pub record RepliedCode (reply : Reply) (out out′ : List ℕ) (code : ℤ) : Ty
   pub output-is : out′ ≡ outputTo reply out
 
 pub record WorkedCode (reply : Reply) (wanted : ℕ) (out out′ work work′ : List ℕ) (code : ℤ) : Type 0 where
-  pub replied : RepliedCode (withWork reply wanted work) out out′ code
-  pub work-is : work′ ≡ workTo (withWork reply wanted work) out work
+  pub replied : RepliedCode (withRoom reply wanted work) out out′ code
+  pub work-is : work′ ≡ workTo (withRoom reply wanted work) out work
+
+pub record TabledCode (reply : Reply) (bytes : List ℕ) (wanted : ℕ) (out out′ table table′ work work′ : List ℕ) (code : ℤ) : Type 0 where
+  pub worked : WorkedCode (withRoom reply (length bytes) table) wanted out out′ work work′ code
+  pub table-is : table′ ≡ tableTo (withTable reply bytes wanted table work) bytes out table

@@ -1,8 +1,9 @@
 // What the programs of stored cases share: how lent memory is filled before a call, the lines of an answer, the place of a query.
 // The answer's first line: `wrote` or `refused`, the number, and `kept` if the output past the answer (all of it for a refusal) is as
-// it was filled, else `altered`. Of a call that is lent work, one word more: after an answer `zeros` if all of the work is zeros,
-// after a refusal `untouched` if all of it is as it was filled, else `altered`. A line for each entry follows: each word a space and
-// 8 hexadecimal digits, lower case.
+// it was filled, else `altered`. Of a call that is lent a table, the same word of the table. Of a call that is lent work, one word more:
+// after an answer `zeros` if all of the work is zeros, after a refusal `untouched` if all of it is as it was filled, else `altered`. A
+// line for each entry follows: each word a space and 8 hexadecimal digits, lower case. The table's counts are the last entries, two words
+// each, the lower one first.
 ghost use Prim.Native.Nat.{_+_, _<_, _≤_};
 ghost use lib.ListN.{length};
 use answers::Answer;
@@ -12,6 +13,9 @@ use words::u32_at;
 
 // What every byte of lent memory is before a call.
 pub const FILL: u8 = 0xA5;
+
+// Bytes of a table's count.
+const COUNT_SIZE: usize = 8;
 
 // ---- lines
 pub fn print(text: &[u8]) {
@@ -79,6 +83,30 @@ fn answer_end(answer: Answer, unit: usize, room: usize) -> usize
     }
 }
 
+// Where the table's part of an answer ends, which takes `counts` bytes; what the table cannot hold takes all of it.
+fn table_end(answer: Answer, counts: usize, room: usize) -> usize
+    ensures { λ r. ⌜ r ≤ room ⌝ }
+{
+    match answer {
+        Answer::Refused(_) => 0,
+        Answer::Wrote(_) => {
+            if counts > room {
+                return room;
+            }
+            counts
+        }
+    }
+}
+
+// Whether lent memory from `end` on is as it was filled.
+fn print_kept(lent: &[u8], end: usize) {
+    if is_filled(lent, end, FILL) {
+        print(b" kept");
+    } else {
+        print(b" altered");
+    }
+}
+
 // The first line up to its end, for an answer that ends at `end`.
 fn print_head(answer: Answer, end: usize, out: &[u8]) {
     match answer {
@@ -91,11 +119,7 @@ fn print_head(answer: Answer, end: usize, out: &[u8]) {
             io::print_decimal(STDOUT_FILENO, count as u64);
         }
     }
-    if is_filled(out, end, FILL) {
-        print(b" kept");
-    } else {
-        print(b" altered");
-    }
+    print_kept(out, end);
 }
 
 // `unit` bytes for each that the answer counts, `width` bytes an entry.
@@ -132,6 +156,26 @@ pub fn print_worked(answer: Answer, width: usize, out: &[u8], work: &[u8])
     print_head(answer, end, out);
     print_work(answer, work);
     print_entries(&out[0..end], width);
+}
+
+// The same of a call that is lent a table too, of which an answer takes `counts` bytes.
+pub fn print_tabled(
+    answer: Answer,
+    width: usize,
+    counts: usize,
+    out: &[u8],
+    table: &[u8],
+    work: &[u8],
+)
+    requires { ⌜ 0 < width ⌝ }
+{
+    let end = answer_end(answer, width, out.len());
+    let counted = table_end(answer, counts, table.len());
+    print_head(answer, end, out);
+    print_kept(table, counted);
+    print_work(answer, work);
+    print_entries(&out[0..end], width);
+    print_entries(&table[0..counted], COUNT_SIZE);
 }
 
 // ---- places

@@ -76,7 +76,7 @@ labels-least file deck passed =
 pub islands-long : (file : List ℕ) (deck : ℕ) → length (islandsReply file deck .bytes) ≡ numberSize * islandsReply file deck .count
 islands-long file deck = length-words (deckLabels (deckOf (decode file) deck))
 
-labels-many : (deck : Deck) → length (deckLabels deck) ≡ polygonCount deck
+pub labels-many : (deck : Deck) → length (deckLabels deck) ≡ polygonCount deck
 unfolding deckLabels labelsBy
 labels-many deck = length-rows (labelBy (names deck) (polygonCount deck)) (polygonCount deck) 0
 

@@ -76,7 +76,7 @@ fn polygon_inside(file: &[u8], b: Blocks, k: usize, n: usize) -> bool
 }
 
 // Of all polygons.
-fn entries_inside(file: &[u8], b: Blocks) -> bool
+pub fn entries_inside(file: &[u8], b: Blocks) -> bool
     requires { ⌜ DeckOfPassed (now file) b ⌝ }
     ensures { λ r. ⌜ r ≡ question19 (deckAt (now (file .entry)) b) ⌝ }
 {
@@ -203,7 +203,7 @@ fn walk(file: &[u8], b: Blocks, i: usize, tail: usize, out: &mut [u8], work: &mu
 }
 
 // Walks from each polygon in turn, so that the first to reach another is the least.
-fn label_all(file: &[u8], b: Blocks, out: &mut [u8], work: &mut [u8])
+pub fn label_all(file: &[u8], b: Blocks, out: &mut [u8], work: &mut [u8])
     requires { ⌜ LabelReady (now file) b (now out) (now work) ⌝ }
     ensures { λ _. ⌜ LabelsPut (deckAt (now (file .entry)) b) (b .polygons) (now (out .entry)) (now (out .exit))
         (now (work .entry)) (now (work .exit)) ⌝ }

@@ -10,7 +10,7 @@ use Rattle.geometry.specs.declared.Vec2.{Vec2}
 use Rattle.words.proofs.Numbers.{length-words}
 use Rattle.answers.specs.declared.Answer.{Answer}
 use Rattle.answers.specs.Replies.{Replied, AnswerFits}
-use Rattle.answers.proofs.Replying.{replied-fits, replied-code, worked-code, worked-length}
+use Rattle.answers.proofs.Replying.{replied-fits, replied-code, worked-code, worked-length, tabled-code, tabled-length}
 use Rattle.ship.specs.Decode.{decode}
 use Rattle.walking.specs.Sees.{shownBy}
 use Rattle.calls.specs.Closest.{pointOfParts, closestPoints, closestPoint, closestPointsReply, closestPointReply}
@@ -32,6 +32,12 @@ use Rattle.records.proofs.ReadBack.{records-length}
 use Rattle.seat_run.specs.Run.{runRecords, runReply}
 use Rattle.seat_run.proofs.SurveyTheorem.{surveyed-code}
 use Rattle.seat_run.proofs.BlockedTheorem.{blocked-unplaced-code}
+use Rattle.loads.specs.Loads.{LoadsReplied, lentOf, SurveyedLoads, UnplacedLoads}
+use Rattle.loads.specs.Totals.{TotalledCode}
+use Rattle.loads.specs.Portions.{PortionedCode}
+use Rattle.loads.proofs.LoadsSurvey.{loads-surveyed-code, loads-unplaced-code}
+use Rattle.loads.proofs.TotalsTheorem.{totalled-code}
+use Rattle.loads.proofs.PortionsTheorem.{portioned-code}
 
 module _ (file : List ℕ) (p : Vec2) (deck : ℕ) (blocked : List ℕ) {out out′ : List ℕ} {r : Answer} where
   pub points-code : Replied (closestPointsReply file p deck blocked) out out′ r → length out < 2 ^ 64 → AnswerFits r
@@ -49,6 +55,29 @@ height-code file p polygon h l = replied-fits h (omega (arith, length-words (hei
 
 pub run-code : (file blocked seats : List ℕ) {out out′ : List ℕ} {r : Answer} → Replied (runReply file blocked seats) out out′ r → length out < 2 ^ 64 → AnswerFits r
 run-code file blocked seats h l = replied-fits h (omega (arith, records-length (runRecords file blocked seats))) l
+
+-- the run with a load sheet
+module _ (file blocked seats out table work : List ℕ) {out′ table′ work′ : List ℕ} {r : Answer} (h : LoadsReplied file blocked seats out out′ table table′ work work′ r) where
+  pub loads-code : length out < 2 ^ 64 → AnswerFits r
+  loads-code l = replied-fits (h .worked .replied) (omega (arith, records-length (runRecords file blocked seats))) l
+
+  pub loads-table : length table′ ≡ length table
+  loads-table = tabled-length h
+
+  pub loads-work : length work′ ≡ length work
+  loads-work = worked-length (h .worked)
+
+  pub surveyed-loads : SurveyedLoads file blocked (lentOf seats out table work) out′
+  surveyed-loads = loads-surveyed-code file blocked (lentOf seats out table work) h
+
+  pub unplaced-loads : UnplacedLoads file blocked (lentOf seats out table work) out′
+  unplaced-loads = loads-unplaced-code file blocked (lentOf seats out table work) h
+
+  pub totalled-loads : TotalledCode file blocked (lentOf seats out table work) out′ table′
+  totalled-loads = totalled-code file blocked (lentOf seats out table work) h
+
+  pub portioned-loads : PortionedCode file blocked (lentOf seats out table work) out′ table′
+  portioned-loads = portioned-code file blocked (lentOf seats out table work) h
 
 -- ---- section 8
 pub layer-code : (file : List ℕ) (p : Vec2) (deck : ℕ) {out out′ : List ℕ} {r : Answer} → Replied (layerReply file p deck) out out′ r → length out < 2 ^ 64 → AnswerFits r
@@ -77,5 +106,7 @@ pub ruleset work-codes = (islands-code, candidates-code, worked-code, worked-len
 pub ruleset removal-codes = (removal-fits, replied-code)
 
 pub ruleset towards-codes = (towards-code, replied-code, snapped-code)
+
+pub ruleset loads-codes = (loads-code, tabled-code, loads-table, loads-work, surveyed-loads, unplaced-loads, totalled-loads, portioned-loads)
 
 pub ruleset run-codes = (run-code, replied-code, surveyed-code, blocked-unplaced-code)

@@ -13,6 +13,9 @@ ghost use Rattle.unstitched.specs.NewFile.{RemovalCode, RemovalSound};
 ghost use Rattle.seat_run.specs.Run.{RunCode};
 ghost use Rattle.seat_run.specs.Survey.{SurveyedCode};
 ghost use Rattle.seat_run.specs.Blocked.{BlockedUnplacedCode};
+ghost use Rattle.loads.specs.Loads.{LoadsCode, lentOf, SurveyedLoads, UnplacedLoads};
+ghost use Rattle.loads.specs.Totals.{TotalledCode};
+ghost use Rattle.loads.specs.Portions.{PortionedCode};
 use geometry::Vec2;
 
 // The surveyor's statement holds of every run that is not refused, and a seat that names a blocked deck is not searched for.
@@ -26,6 +29,30 @@ pub extern "C" fn seats_run(file: &[u8], blocked: &[u8], seats: &[u8], out: &mut
         (now (out .entry)) (now (out .exit)) ⌝ }
 {
     answers::code(seat_run::run(file, blocked, seats, out))
+}
+
+// The run with a load sheet in the table. The run's clauses hold of its records; the sheet's counts add up, and so do portions' sheets.
+#[no_mangle]
+pub extern "C" fn seats_run_loads(
+    file: &[u8],
+    blocked: &[u8],
+    seats: &[u8],
+    out: &mut [u8],
+    table: &mut [u8],
+    work: &mut [u8],
+) -> i64
+    ensures replied { λ r. ⌜ LoadsCode (now (file .entry)) (now (blocked .entry)) (now (seats .entry))
+        (now (out .entry)) (now (out .exit)) (now (table .entry)) (now (table .exit)) (now (work .entry)) (now (work .exit)) r ⌝ }
+    ensures surveyed { λ _. ⌜ SurveyedLoads (now (file .entry)) (now (blocked .entry))
+        (lentOf (now (seats .entry)) (now (out .entry)) (now (table .entry)) (now (work .entry))) (now (out .exit)) ⌝ }
+    ensures unsearched { λ _. ⌜ UnplacedLoads (now (file .entry)) (now (blocked .entry))
+        (lentOf (now (seats .entry)) (now (out .entry)) (now (table .entry)) (now (work .entry))) (now (out .exit)) ⌝ }
+    ensures totalled { λ _. ⌜ TotalledCode (now (file .entry)) (now (blocked .entry))
+        (lentOf (now (seats .entry)) (now (out .entry)) (now (table .entry)) (now (work .entry))) (now (out .exit)) (now (table .exit)) ⌝ }
+    ensures portioned { λ _. ⌜ PortionedCode (now (file .entry)) (now (blocked .entry))
+        (lentOf (now (seats .entry)) (now (out .entry)) (now (table .entry)) (now (work .entry))) (now (out .exit)) (now (table .exit)) ⌝ }
+{
+    answers::code(loads::run_loads(file, blocked, seats, out, table, work))
 }
 
 #[no_mangle]

@@ -1,6 +1,7 @@
-// Runs stored cases of the calls of document 01, sections 5 to 7. The input is cases, one after the other. A case is the letter of its call in a word, the
-// call's lengths and numbers (all u32, little-endian; a float by its bit pattern), and then the bytes of the lengths:
+// Runs stored cases of the calls of document 01, sections 5 to 7, and document 02, point 4. The input is cases, one after the other. A case is the
+// letter of its call in a word, the call's lengths and numbers (all u32, little-endian; a float by its bit pattern), and then the bytes of the lengths:
 //   R, the run: file length, blocked length, seats length, output length
+//   L, the run with a load sheet: the same, table length, work length, and how many bytes of the table the sheet takes
 //   P, the closest points, and Q, the closest point: file length, blocked length, x, y, deck, output length
 //   H, the height: file length, x, y, packed polygon, output length
 // The answer's lines are those of the crate `cases`. What is no case gives the one word `bad`, and nothing after it is read.
@@ -11,16 +12,33 @@ use cases::Place;
 use cases::place_at;
 use cases::print;
 use cases::print_answer;
+use cases::print_tabled;
 use geometry::Vec2;
 use words::size_at;
 use words::u32_at;
 
 const MOST_OUTPUT: usize = 4096;
 
+// Room for the records of more than 256 seats, and for the sheet of a ship of 256 decks.
+const MOST_LENT: usize = 16384;
+
 // ---- the calls, with their lines
 fn run(file: &[u8], blocked: &[u8], seats: &[u8], out: &mut [u8]) {
     let answer = seat_run::run(file, blocked, seats, out);
     print_answer(answer, 36, 36, out);
+}
+
+fn run_loads(
+    file: &[u8],
+    blocked: &[u8],
+    seats: &[u8],
+    sheet: usize,
+    out: &mut [u8],
+    table: &mut [u8],
+    work: &mut [u8],
+) {
+    let answer = loads::run_loads(file, blocked, seats, out, table, work);
+    print_tabled(answer, 36, sheet, out, table, work);
 }
 
 fn closest_points(file: &[u8], blocked: &[u8], p: Vec2, deck: u32, out: &mut [u8]) {
@@ -59,6 +77,43 @@ fn run_case(rest: &[u8]) -> usize
     let blocked = &rest[file_end..blocked_end];
     let mut out = [FILL; MOST_OUTPUT];
     run(file, blocked, &rest[blocked_end..end], &mut out[0..room]);
+    end
+}
+
+fn loads_case(rest: &[u8]) -> usize
+    ensures { λ r. ⌜ r ≤ length (now (rest .entry)) ⌝ }
+{
+    if rest.len() < 32 {
+        return 0;
+    }
+    let file_end = 32 + size_at(rest, 4);
+    let blocked_end = file_end + size_at(rest, 8);
+    let end = blocked_end + size_at(rest, 12);
+    let room = size_at(rest, 16);
+    let table_length = size_at(rest, 20);
+    let work_length = size_at(rest, 24);
+    let sheet = size_at(rest, 28);
+    if end > rest.len() {
+        return 0;
+    }
+    if room > MOST_LENT || table_length > MOST_LENT || work_length > MOST_LENT {
+        return 0;
+    }
+    let file = &rest[32..file_end];
+    let blocked = &rest[file_end..blocked_end];
+    let seats = &rest[blocked_end..end];
+    let mut out = [FILL; MOST_LENT];
+    let mut table = [FILL; MOST_LENT];
+    let mut work = [FILL; MOST_LENT];
+    run_loads(
+        file,
+        blocked,
+        seats,
+        sheet,
+        &mut out[0..room],
+        &mut table[0..table_length],
+        &mut work[0..work_length],
+    );
     end
 }
 
@@ -121,6 +176,7 @@ fn case(rest: &[u8]) -> usize
 {
     match rest[0] {
         b'R' => run_case(rest),
+        b'L' => loads_case(rest),
         b'P' => closest_case(rest, false),
         b'Q' => closest_case(rest, true),
         b'H' => height_case(rest),

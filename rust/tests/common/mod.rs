@@ -1,4 +1,4 @@
-//! Ships of the tests, and the twelve calls with lent output and work.
+//! Ships of the tests, and the thirteen calls with lent output and work.
 #![allow(dead_code)]
 use feedercoil::raw::{self, ANY_DECK, NO_POLYGON};
 use feedercoil::{seat_list, DeckPlan, Refusal, Seat, ShipPlan, VertexPlan};
@@ -46,8 +46,11 @@ pub const LENT: u8 = 0xA5;
 pub type Call = fn(&[u8], &mut [u8], &mut [u8]) -> Result<usize, Refusal>;
 
 /// Every call, at (1, 1), with nothing blocked, and towards (3, 1). The number is the bytes of an entry, of removal a byte.
-pub const CALLS: [(&str, usize, Call); 12] = [
+pub const CALLS: [(&str, usize, Call); 13] = [
     ("run", 36, |file, out, _| raw::run(file, &[0; 32], &seat_list(&[Seat::at(1.0, 1.0)]), out)),
+    ("run_loads", 36, |file, out, work| {
+        with_table(file, |table| raw::run_loads(file, &[0; 32], &seat_list(&[Seat::at(1.0, 1.0)]), out, table, work))
+    }),
     ("closest_points", 12, |file, out, _| raw::closest_points(file, 1.0, 1.0, ANY_DECK, &[0; 32], out)),
     ("closest_point", 12, |file, out, _| raw::closest_point(file, 1.0, 1.0, ANY_DECK, &[0; 32], out)),
     ("closest_point_towards", 12, |file, out, _| raw::closest_point_towards(file, 1.0, 1.0, 3.0, 1.0, ANY_DECK, out)),
@@ -60,6 +63,14 @@ pub const CALLS: [(&str, usize, Call); 12] = [
     ("remove_stitches", 1, |file, out, _| raw::remove_stitches(file, out)),
     ("remove_stitches_to_layer", 1, |file, out, _| raw::remove_stitches_to_layer(file, 0, out)),
 ];
+
+/// A call with a table of more bytes than the sheet of any ship of this file's length. A refusal has to leave all of it as it was.
+pub fn with_table(file: &[u8], call: impl FnOnce(&mut [u8]) -> Result<usize, Refusal>) -> Result<usize, Refusal> {
+    let mut table = vec![LENT; 3 * file.len() + 9];
+    let answer = call(&mut table);
+    assert!(answer.is_ok() || table.iter().all(|&b| b == LENT), "the table was altered: {answer:?}");
+    answer
+}
 
 /// A call with this much lent. A refusal has to leave all of it as it was.
 pub fn lend(name: &str, call: Call, file: &[u8], out: usize, work: usize) -> (Result<usize, Refusal>, Vec<u8>, Vec<u8>) {

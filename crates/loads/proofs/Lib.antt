@@ -1,0 +1,12 @@
+pub mod SheetLaws
+pub mod LoadSums
+pub mod SheetStep
+pub mod LabelLoop
+pub mod Adding
+pub mod LoadsReply
+pub mod TotalsTheorem
+pub mod PortionsTheorem
+pub mod LoadsSurvey
+pub mod CountLoop
+pub mod LoadsCall
+pub mod Examples

@@ -1,0 +1,5 @@
+pub mod Sheet
+pub mod Loads
+pub mod Totals
+pub mod Portions
+pub mod Counting
