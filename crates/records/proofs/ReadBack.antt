@@ -2,7 +2,7 @@
 use Prim.Native.Nat.{ℕ, zero, suc, _+_, _*_, _<_}
 use native.Mathlib.Omega.{arith}
 use native.Mathlib.Nat.{add-assoc}
-use mathlib.Core.Path.{_≡_, sym, ap, _∙_}
+use mathlib.Core.Path.{_≡_, refl, sym, ap, _∙_}
 use mathlib.Core.List.{List, [], _∷_, _++_, append-assoc}
 use lib.ListN.{length, getD, drop}
 use lib.Seq.{take-at, drop-append-add, getD-take, getD-drop, ext-getD}
@@ -11,7 +11,7 @@ use Rattle.words.proofs.Writing.{length-joined}
 use Rattle.words.proofs.Numbers.{length-words, word-back}
 use Rattle.words.proofs.TableRows.{length-rows, getD-rows}
 use Rattle.records.specs.declared.SeatRecord.{SeatRecord}
-use Rattle.records.specs.Record.{recordSize, recordWords, recordBytes, recordsBytes, wordAt, recordAt, recordsIn, recordSlice, unplacedRecord}
+use Rattle.records.specs.Record.{recordSize, recordWords, recordBytes, recordsBytes, wordAt, recordAt, recordsIn, recordSlice, unplacedRecord, untriedBytes}
 
 -- ---- `record_at`
 pub nine-read : (s : List ℕ) (i : ℕ) {polygon x y kind height step sample tried candidates : ℕ}
@@ -25,6 +25,10 @@ nine-read s i a b c d e f g h k = rw (a, b, c, d, e, f, g, h, k)
 pub nine-written : (r : SeatRecord) (out : List ℕ) (at : ℕ) {out′ : List ℕ} → out′ ≡ splice out at (wordsOf (recordWords r)) → out′ ≡ splice out at (recordBytes r)
 unfolding recordBytes
 nine-written r out at e = e
+
+pub untried : recordBytes (unplacedRecord 0) ≡ untriedBytes
+unfolding recordBytes joined bytes4
+untried = refl
 
 -- ---- lengths
 pub record-length : (r : SeatRecord) → length (recordBytes r) ≡ recordSize

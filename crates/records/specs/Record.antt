@@ -1,9 +1,9 @@
 -- Document 01, section 7: the record of a seat, nine numbers of four bytes each.
 use Prim.Native.Nat.{ℕ, _+_, _*_}
 use mathlib.Core.Bool.{Bool}
-use mathlib.Core.List.{List, [], _∷_}
+use mathlib.Core.List.{List, [], _∷_, _++_}
 use lib.Dec.{eqb}
-use lib.ListN.{take, drop}
+use lib.ListN.{take, drop, replicate}
 use Rattle.words.specs.Bytes.{allOnes, u32At, joined, wordsOf}
 use Rattle.words.specs.Rows.{rows}
 use Rattle.records.specs.declared.SeatRecord.{SeatRecord}
@@ -54,6 +54,10 @@ recordSlice s i = take recordSize (drop (recordSize * i) s)
 abbrev pub unplacedRecord : ℕ → SeatRecord
 unplacedRecord tried =
     record { polygon = allOnes; x = 0; y = 0; kind = 0; height = 0; step = 0; sample = 0; tried = tried; candidates = 0 }
+
+-- its bytes with nothing tried: all ones, then eight zeros
+abbrev pub untriedBytes : List ℕ
+untriedBytes = replicate 4 255 ++ replicate 32 0
 
 abbrev pub isUnplaced : SeatRecord → Bool
 isUnplaced r = eqb (r .polygon) allOnes

@@ -1,24 +1,20 @@
 -- The theorem of bytes on blocked decks: every seat run that is not refused leaves a seat that names one unplaced, with nothing tried.
 use Prim.Native.Nat.{ℕ, _<_}
-use mathlib.Core.Path.{_≡_, refl, ap, _∙_}
+use mathlib.Core.Path.{_≡_, ap, _∙_}
 use mathlib.Core.Bool.{false}
 use mathlib.Core.List.{List}
-use Rattle.words.specs.Bytes.{bytes4, joined}
 use Rattle.answers.specs.declared.Answer.{Answer}
 use Rattle.answers.specs.Replies.{answerTo, outputTo, Replied}
-use Rattle.records.specs.Record.{recordBytes, unplacedRecord}
+use Rattle.records.specs.Record.{recordBytes}
+use Rattle.records.proofs.ReadBack.{untried}
 use Rattle.ship.specs.Decode.{decode}
 use Rattle.survey.specs.View.{View}
 use Rattle.survey.proofs.NoneOpen.{none-open, no-deck-open, nothing-tried}
 use Rattle.walking.specs.Sees.{view}
 use Rattle.seat_run.specs.SeatFile.{deckWord, seatAt}
 use Rattle.seat_run.specs.Run.{runReply}
-use Rattle.seat_run.specs.Blocked.{NamesBlocked, untriedBytes, BlockedUnplaced, BlockedUnplacedCode}
+use Rattle.seat_run.specs.Blocked.{NamesBlocked, BlockedUnplaced, BlockedUnplacedCode}
 use Rattle.seat_run.proofs.RunRecords.{of-run, result-slice}
-
-untried : recordBytes (unplacedRecord 0) ≡ untriedBytes
-unfolding recordBytes joined bytes4
-untried = refl
 
 abbrev seen : List ℕ → List ℕ → List ℕ → ℕ → View
 seen file blocked seats i = view (decode file) blocked (seatAt seats i)

@@ -2,13 +2,12 @@
 use Prim.Native.Nat.{ℕ, _<_}
 use mathlib.Core.Path.{_≡_}
 use mathlib.Core.Bool.{true}
-use mathlib.Core.List.{List, _++_}
-use lib.ListN.{replicate}
+use mathlib.Core.List.{List}
 use Rattle.words.specs.Bytes.{allOnes}
 use Rattle.answers.specs.declared.Answer.{Answer}
 use Rattle.answers.specs.declared.Answer.the-variants.{Refused, Wrote}
 use Rattle.answers.specs.Replies.{answerTo}
-use Rattle.records.specs.Record.{recordSlice}
+use Rattle.records.specs.Record.{recordSlice, untriedBytes}
 use Rattle.ship.specs.Decode.{decode}
 use Rattle.survey.specs.Wishes.{isBlocked}
 use Rattle.survey.specs.Survey.{openDecks}
@@ -19,10 +18,6 @@ use Rattle.seat_run.specs.Run.{runReply}
 -- seat i names a deck, and that deck is in the blocked set
 abbrev pub NamesBlocked : List ℕ → List ℕ → ℕ → Type 0
 NamesBlocked blocked seats i = (deckWord seats i ≡ allOnes → ⊥) × (isBlocked blocked (deckWord seats i) ≡ true)
-
--- the record of an unplaced seat with nothing tried: all ones, then eight zeros
-abbrev pub untriedBytes : List ℕ
-untriedBytes = replicate 4 255 ++ replicate 32 0
 
 -- What holds of a run on these bytes that answered so and left this output: D is 0 for such a seat, and these are its record's bytes.
 abbrev pub BlockedUnplaced : List ℕ → List ℕ → List ℕ → Answer → List ℕ → Type 0
