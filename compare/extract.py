@@ -133,6 +133,7 @@ def layers():
 def mesh():
     lib, stitching = read("lib.rs"), read("stitching.rs")
     fields = r"    #\[cfg\(feature = \"stats\"\)\]\n    #\[cfg_attr[^\n]*\n    pub\(crate\) scenarios: ScenarioCounter,\n"
+    default = re.sub(r" *#\[cfg\(feature = \"stats\"\)\]\n *scenarios: [^\n]*\n", "", item(lib, "impl Default for Mesh"))
     coords = item(lib, "impl Coords {")
     return (
         "use std::collections::{HashMap, HashSet};\n"
@@ -151,6 +152,7 @@ def mesh():
         + "pub fn on_polygon(pos: Vec2, polygon: u32) -> Self { Coords { pos, layer: Some(polygon.layer()), polygon_index: polygon } }\n"
         + "}\n#[derive(Debug, Clone)]\n"
         + re.sub(fields, "", item(lib, "pub struct Mesh {"))
+        + default
         + "impl Mesh {\n"
         + item(lib, "pub fn set_search_delta(")
         + item(lib, "pub fn set_search_steps(")

@@ -232,6 +232,10 @@ OTHER_CALLS = [
 FIRST = "(0..samples(step)).find(|&i| bits(lies(i)) == bits(place))"
 
 RECORDS = [
+    (
+        "a ship with no decks as one of an empty deck",
+        [before(MESH, "mesh.set_search_delta(", "if ON && plan.decks.is_empty() { mesh.layers.push(Layer::default()); }")],
+    ),
     ("a step less", [instead(MESH, "plan.steps", "(plan.steps - 1).max(1)")]),
     ("tried with whole rings in the last step", [instead(RECORD, "i + 1", "samples(step)")]),
     ("tried without the steps before the last", [instead(RECORD, "before(step)", "0")]),

@@ -16,7 +16,8 @@
  * - No memory is allocated and nothing is kept between calls, so calls may run in several threads. A call takes up to some 80 KiB
  *   of stack.
  *
- * file     a ship file
+ * file     a ship file. Of a ship with no decks yet it is 12 bytes: no seat is placed on it, nothing is found, a deck that is named
+ *          gets 17 where 17 is asked
  * blocked  the decks left out of every search, also where one is named: SEATS_BLOCKED_SIZE bytes, deck d is bit d % 8 of byte
  *          d / 8, bit 0 the lowest
  * deck     a deck's number, or SEATS_ANY_DECK where none is named
@@ -98,7 +99,7 @@ int64_t seats_point_location(const uint8_t *file, size_t file_len, float x, floa
 int64_t seats_point_layer(const uint8_t *file, size_t file_len, float x, float y, uint32_t deck, uint8_t *out, size_t out_len);
 
 /* The polygons that a point may be on, without those that an earlier one reaches; or polygon alone where it is named, unchecked.
- * Writes SEATS_POLYGON_SIZE bytes each. Returns how many; at most as many as the ship has polygons.
+ * Writes SEATS_POLYGON_SIZE bytes each. Returns how many; at most as many as the ship has polygons, or 1 where polygon is named.
  * Work: SEATS_WORK_SIZE bytes a polygon of all decks. */
 int64_t seats_candidate_polygons(const uint8_t *file, size_t file_len, float x, float y, uint32_t deck, uint32_t polygon,
                                  const uint8_t *blocked, size_t blocked_len, uint8_t *out, size_t out_len, uint8_t *work,

@@ -19,6 +19,7 @@ STATEMENTS = {
     "E": "crates/loads/specs/Sheet.antt",
     "F": "crates/loads/specs/Totals.antt",
     "G": "crates/loads/specs/Portions.antt",
+    "H": "crates/seat_run/specs/NoDecks.antt",
 }
 DOCUMENTS = ["README.md"] + ["docs/%s" % name for name in sorted(os.listdir(os.path.join(ROOT, "docs"))) if name.endswith(".md")]
 

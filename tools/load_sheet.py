@@ -81,12 +81,13 @@ class Seen:
     """What was held against the counts, so that a check of nothing fails."""
 
     def __init__(self):
-        self.sheets = self.seats = self.unplaced = self.elsewhere = self.one_way = self.portions = 0
+        self.sheets = self.seats = self.unplaced = self.elsewhere = self.one_way = self.portions = self.no_decks = 0
 
     def line(self):
         counts = (self.sheets, self.seats, self.unplaced, self.elsewhere, self.one_way)
         line = "%d sheets are as counted: %d seats, %d of them unplaced, %d at another polygon's place, %d by reach that is one way" % counts
-        return line + ("; %d lists in portions" % self.portions if self.portions else "")
+        line += "; %d lists in portions" % self.portions if self.portions else ""
+        return line + ("; %d sheets of hulls with no decks" % self.no_decks if self.no_decks else "")
 
 
 def counted(file, records, seen):
@@ -125,6 +126,7 @@ def compare(file, records, table, seen):
     decks = words(file[:4])[0]
     want(sum(counts[-decks - 1 :]) == len(records) // 36, "the decks and the unplaced are not all seats")
     seen.sheets += 1
+    seen.no_decks += decks == 0
     return counts
 
 
@@ -209,6 +211,7 @@ def main():
     try:
         if arguments == ["stored"]:
             stored(seen)
+            want(seen.no_decks, "no hull with no decks")
         elif arguments == ["runs"]:
             runs(seen)
             want(seen.portions, "no list in portions")

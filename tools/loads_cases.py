@@ -6,9 +6,9 @@ check: exits with 1 where one of the two files differs from what is computed her
 list: prints the cases, in the order of their answers in stdout.
 
 Records are those of tools/seats_cases.py, labels those of tools/other_cases.py, by the closure of reach. A count is how many records of
-the list stand there, taken anew for each place. Of a ship the questions 14 to 17, 19 and 20 are asked here; of a damaged file the
-number that it is built to fail stands beside the case. Where a case is built to be refused, both are there and have to agree. Nothing
-of the Rattle code takes part.
+the list stand there, taken anew for each place; a hull with no decks (point 5) has the unplaced alone. Of a ship the questions 14 to
+17, 19 and 20 are asked here; of a damaged file the number that it is built to fail stands beside the case. Where a case is built to be
+refused, both are there and have to agree. Nothing of the Rattle code takes part.
 
 The last line of stdout is `bad`, for a case that is cut short.
 """
@@ -23,8 +23,9 @@ import other_cases as other
 import seats_cases as seats
 import ship_cases
 import stored_cases
-from other_cases import MOST, Ship, boxes, listed, packed
+from other_cases import HULL, MOST, Ship, boxes, listed, packed
 from seats_cases import ABOVE, MILLION, NAN, at
+from ship_cases import LONG_HULL, REFUSED_HULLS, SHORT_HULL
 from ship_file import ALL_ONES, EXAMPLE_SHIP, SQUARE, bits, blocked, deck_blocks, put, seat, u32
 
 MOST_BYTES = 190000  # they fit the program's array
@@ -286,7 +287,7 @@ def order_cases():
     short = {"room": 0, "table": 0, "work": 0}
     damaged = ship_cases.ship_of(deck_blocks(DECK_0) + ship_cases.square_with(ship_cases.corner_not_there))
     yield loads("13 and 14", damaged, good, no=13, closed=bytes(31))
-    yield loads("2 and 20", put(EXAMPLE_SHIP, 0, 0), good, no=2, **short)
+    yield loads("2 and 20", put(EXAMPLE_SHIP, 0, 257), good, no=2, **short)
     for length in (31, 33):
         yield loads("14 of a blocked set of %d bytes, and 19" % length, bad, good, no=14, closed=bytes(length))
     yield loads("14 of the seats, and 19", bad, good + b"\0", no=14)
@@ -311,6 +312,69 @@ def damaged_cases():
         yield loads(name, file, SEATS[:1], no=no)
     yield loads("no bytes, and nothing lent", b"", [], no=1, room=0, table=0, work=0)
     yield loads("L 257", Ship(*[other.dots([])] * 257).file, [], no=2)
+
+
+# ---- a hull with no decks
+
+
+def no_deck_cases():
+    """Document 02, point 5: the sheet is one count, of 8 bytes, and no work is needed."""
+    some = seats.EXAMPLE_SEATS
+    for name, no, file in REFUSED_HULLS:
+        yield loads(name, file, some, no=no)
+        yield loads(name + ", nothing lent", file, [], no=no, room=0, table=0, work=0)
+    yield loads("L 0, the example's seats", HULL, some)
+    yield loads("L 0, wishes", HULL, [at(1.0, 1.0, wish=2.0), at(-0.0, MILLION, wish=-MILLION)])
+    yield loads("L 0, no seats", HULL, [])
+    yield loads("L 0, 257 seats: a count of two bytes", HULL, [at(1.0, 1.0)] * 257)
+    yield loads("L 0, S 16, reach 1,000", Ship(reach=1000.0, steps=16), some)
+    yield loads("L 0, every deck blocked", HULL, some, closed=range(256))
+    for cut in (1, 2):
+        yield loads("L 0, the first %d seats" % cut, HULL, some[:cut])
+        yield loads("L 0, the seats after the first %d" % cut, HULL, some[cut:])
+
+
+def no_deck_room_cases():
+    some = seats.EXAMPLE_SEATS
+    for name, need in [("room", 36 * len(some)), ("table", 8)]:
+        for size in (0, need - 1):
+            yield loads("L 0, %s of %d bytes" % (name, size), HULL, some, no=20, **{name: size})
+        for size in (need + 1, need + 8):
+            yield loads("L 0, %s of %d bytes" % (name, size), HULL, some, **{name: size})
+    for work in (0, 1, 8, 64):
+        yield loads("L 0, work of %d bytes" % work, HULL, some, work=work)
+    yield loads("L 0, more of everything", HULL, some, room=200, table=37, work=37)
+    yield loads("L 0, table of 7 bytes, work of 64", HULL, some, no=20, table=7, work=64)
+    yield loads("L 0, no seats, table of 7 bytes", HULL, [], no=20, table=7)
+    yield loads("L 0, no seats, more of everything", HULL, [], room=5, table=19, work=9)
+
+
+def no_deck_order_cases():
+    good, named = seat(1.0, 1.0), seat(1.0, 1.0, 0)
+    bad_kind, bad_size = put(good, 12, 2), seat(1.0, NAN)
+    short = {"room": 0, "table": 0, "work": 0}
+    for d in (0, 1, 255, 256, ALL_ONES - 1):
+        yield loads("L 0, deck %d named" % d, HULL, seat(1.0, 1.0, d), no=17, work=8)
+    yield loads("L 0, deck 0 named and blocked", HULL, named, no=17, closed=[0])
+    for k in range(3):
+        yield loads("L 0, 17 of seat %d of 3" % k, HULL, good * k + named + good * (2 - k), no=17)
+    yield loads("L 0, 1 and 17", SHORT_HULL, named, no=1)
+    yield loads("L 0, 6 and 14", LONG_HULL, good, no=6, closed=bytes(31))
+    yield loads("L 0, 6 and 17", LONG_HULL, named, no=6)
+    yield loads("L 0, 6 and 20", LONG_HULL, good, no=6, **short)
+    yield loads("L 0, blocked set of 33 bytes", HULL, good, no=14, closed=bytes(33))
+    yield loads("L 0, 14 of the blocked set and 17", HULL, named, no=14, closed=bytes(31), work=8)
+    yield loads("L 0, 14 of the seats and 17", HULL, named + b"\0", no=14)
+    yield loads("L 0, 14 and 20", HULL, good, no=14, closed=b"", **short)
+    yield loads("L 0, 15 and 17 of a seat", HULL, put(named, 12, 2), no=15)
+    yield loads("L 0, 15 and 20", HULL, bad_kind, no=15, **short)
+    yield loads("L 0, 16 and 17 of a seat", HULL, put(bad_size, 8, 0), no=16)
+    yield loads("L 0, 16 and 20", HULL, bad_size, no=16, **short)
+    for name in ("room", "table"):
+        yield loads("L 0, 17 and 20 of the %s" % name, HULL, named, no=17, **{name: 0})
+    yield loads("L 0, 15 of seat 0, 17 of seat 1", HULL, bad_kind + named, no=15)
+    yield loads("L 0, 16 of seat 0, 17 of seat 1", HULL, bad_size + named, no=16)
+    yield loads("L 0, 17 of seat 0, 15 of seat 1", HULL, named + bad_kind, no=17)
 
 
 # ---- ships from a fixed seed
@@ -347,7 +411,7 @@ def random_cases(ships=8):
 # ---- the two files
 
 GROUPS = [sheet_cases, empty_cases, blocked_cases, height_cases, reach_cases, size_cases, portion_cases]
-GROUPS += [room_cases, label_cases, order_cases, damaged_cases, random_cases]
+GROUPS += [room_cases, label_cases, order_cases, damaged_cases, no_deck_cases, no_deck_room_cases, no_deck_order_cases, random_cases]
 
 
 def cases():

@@ -6,10 +6,11 @@ check: exits with 1 where one of the two files differs from what is computed her
 list: prints the cases, in the order of their answers in stdout.
 
 The answers are worked out from document 01, section 8, over a ship's plan and not its file: locating by the nine probes, merging and
-islands by the closure of their relation, stitch points by pairs of vertices, and removal by a plan whose lists are filtered and
-whose file is written anew; and from document 02, point 2, the place towards a point. The search and the arithmetic are those of
-tools/seats_cases.py. Of a ship the questions 14, 16 to 20 and 22 are asked here; of a damaged file the number that it is built to fail
-stands beside the case. Where a case is built to be refused, both are there and have to agree. Nothing of the Rattle code takes part.
+islands by the closure of their relation, stitch points by pairs of vertices, and removal by a plan whose lists are filtered and whose
+file is written anew; and from document 02, point 2, the place towards a point. A hull with no decks (point 5) is an empty plan. The
+search and the arithmetic are those of tools/seats_cases.py. Of a ship the questions 14, 16 to 20 and 22 are asked here; of a damaged
+file the number that it is built to fail stands beside the case. Where a case is built to be refused, both are there and have to agree.
+Nothing of the Rattle code takes part.
 
 A place that is an argument is never a NaN, since no float can be made of a NaN's pattern there. The last line of stdout is `bad`, for
 a case that is cut short.
@@ -26,6 +27,7 @@ import seats_cases as seats
 import ship_cases
 import stored_cases
 from seats_cases import ABOVE, BARE, CORNERS, INFINITY, MILLION, round_trip, value
+from ship_cases import LONG_HULL, REFUSED_HULLS, SHORT_HULL
 from ship_file import ALL_ONES, EXAMPLE_SHIP, SQUARE, bits, blocked, deck_blocks, put, u32
 
 MOST_BYTES = 290000  # they fit the program's array
@@ -315,6 +317,7 @@ def towards(name, ship, x=1.0, y=1.0, to=(3.0, 1.0), deck=ALL_ONES, no=None, roo
 
 
 CALLS = [location, layer, polygons, islands, stitches, removal, removal_to, towards]
+PLACED = [location, layer, polygons, towards]  # they take a place and a deck
 
 # ---- decks and ships
 
@@ -327,6 +330,7 @@ def listed(deck, *lists):
 
 FAR = seats.deck("100 100 104 100 104 104 100 104")  # no place here comes near it
 EXAMPLE = Ship(SQUARE)
+HULL = Ship()  # document 02, point 5: no decks yet
 
 
 def box(x, y, half):
@@ -883,8 +887,110 @@ def damaged_cases():
         yield call("no bytes and an output of 0", b"", no=1, room=0)
     for call in (polygons, islands):
         yield call("no bytes, an output of 0 and work of 0", b"", no=1, room=0, work=0)
-    for call in CALLS[:3] + [towards]:
-        yield call("2 and 16", put(EXAMPLE_SHIP, 0, 0), INFINITY, no=2)
+    for call in PLACED:
+        yield call("2 and 16", put(EXAMPLE_SHIP, 0, 257), INFINITY, no=2)
+
+
+# ---- a hull with no decks
+
+
+def no_deck_file_cases():
+    """Document 02, point 5: the file ends with its header."""
+    for call in CALLS:
+        for name, no, file in REFUSED_HULLS:
+            yield call(name, file, no=no)
+    for call in PLACED:
+        yield call("L 0, 11 bytes, deck 0 named", SHORT_HULL, deck=0, no=1)
+        yield call("L 0, 13 bytes, deck 0 named", LONG_HULL, deck=0, no=6)
+        yield call("L 0, 6 and 16", LONG_HULL, INFINITY, no=6)
+    for call in CALLS[1:]:
+        yield call("L 0, 13 bytes, output of 0 bytes", LONG_HULL, no=6, room=0)
+    for call in (polygons, islands):
+        yield call("L 0, 13 bytes, work of 0 bytes", LONG_HULL, no=6, work=0)
+    yield polygons("L 0, 6 and 14", LONG_HULL, no=6, closed=bytes(31))
+    yield polygons("L 0, 13 bytes, a polygon named", LONG_HULL, polygon=0, no=6)
+    yield towards("L 0, 6 and 22", LONG_HULL, to=(1.0, 1.0), no=6)
+
+
+def no_deck_place_cases():
+    """Nothing is found, whatever deck is named."""
+    for call in (location, layer):
+        yield call("L 0", HULL)
+        for d in (0, 1, 255, 256, ALL_ONES - 1):
+            yield call("L 0, deck %d named" % d, HULL, deck=d)
+        yield call("L 0, reach 1,000, far out", Ship(reach=1000.0, steps=16), MILLION, -MILLION)
+        yield call("L 0, x of %s" % ABOVE, HULL, ABOVE, no=16)
+        yield call("L 0, 16 and a deck named", HULL, 1.0, -INFINITY, deck=0, no=16)
+    for room in (3, 4):
+        yield layer("L 0, output of %d bytes" % room, HULL, room=room)
+    yield layer("L 0, deck 0 named, output of 4 bytes", HULL, deck=0, room=4)
+    yield layer("L 0, 16 and an output of 0 bytes", HULL, ABOVE, no=16, room=0)
+
+
+def no_deck_candidate_cases():
+    """Nothing is found, whatever deck is named; there is no polygon, so that no work is needed."""
+    yield polygons("L 0", HULL)
+    for d in (0, 1, 255, 256, ALL_ONES - 1):
+        yield polygons("L 0, deck %d named" % d, HULL, deck=d)
+    yield polygons("L 0, deck 0 named and blocked", HULL, deck=0, closed=[0])
+    yield polygons("L 0, every deck blocked", HULL, closed=range(256))
+    yield polygons("L 0, S 16, far out", Ship(steps=16), MILLION, -MILLION)
+    yield polygons("L 0, output of 7 bytes, work of 9", HULL, room=7, work=9)
+    yield polygons("L 0, deck 0 named, output of 4 bytes, work of 1", HULL, deck=0, room=4, work=1)
+    for polygon in (0, 1, packed(1, 0), packed(255, 5), ALL_ONES - 1):
+        yield polygons("L 0, %08x named" % polygon, HULL, polygon=polygon)
+    yield polygons("L 0, a polygon and a deck named", HULL, deck=0, polygon=5)
+    yield polygons("L 0, a polygon named, every deck blocked", HULL, polygon=5, closed=range(256))
+    for room, work, no in [(0, 0, 20), (3, 0, 20), (3, 40, 20), (4, 0, None), (4, 1, None), (5, 40, None)]:
+        yield polygons("L 0, a polygon named, output of %d bytes, work of %d" % (room, work), HULL, polygon=5, no=no, room=room, work=work)
+    for length in (0, 31, 33):
+        yield polygons("L 0, blocked set of %d bytes" % length, HULL, no=14, closed=bytes(length))
+    yield polygons("L 0, y of %s" % -ABOVE, HULL, 1.0, -ABOVE, no=16)
+    yield polygons("L 0, 14 and 16", HULL, INFINITY, no=14, closed=bytes(31))
+    yield polygons("L 0, 14 and a deck named", HULL, deck=0, no=14, closed=bytes(31))
+    yield polygons("L 0, 16 and a deck named", HULL, INFINITY, deck=0, no=16)
+    yield polygons("L 0, 14 and 20", HULL, polygon=5, no=14, closed=bytes(33), room=0)
+    yield polygons("L 0, 16 and 20", HULL, ABOVE, polygon=5, no=16, room=0)
+
+
+def no_deck_island_cases():
+    """There is no deck to be asked for."""
+    for d in (0, 1, 255, 256, ALL_ONES - 1, ALL_ONES):
+        yield islands("L 0, deck %d" % d, HULL, deck=d, no=17)
+    for room, work in [(0, 0), (0, 8), (8, 0)]:
+        yield islands("L 0, 17 and an output of %d bytes, work of %d" % (room, work), HULL, no=17, room=room, work=work)
+
+
+def no_deck_stitch_cases():
+    """No points, and a removal that has the header to write."""
+    for name, ship in [("L 0", HULL), ("L 0, S 16, reach -0", Ship(reach=-0.0, steps=16))]:
+        yield stitches(name, ship)
+        yield removal(name, ship)
+        for t in (0, 1, 255):
+            yield removal_to(name, ship, t)
+    for room in (15, 16):
+        yield stitches("L 0, output of %d bytes" % room, HULL, room=room)
+    for room, no in [(0, 20), (11, 20), (12, None), (13, None)]:
+        yield removal("L 0, output of %d bytes" % room, HULL, no=no, room=room)
+        yield removal_to("L 0, output of %d bytes" % room, HULL, 0, no=no, room=room)
+    yield removal("L 0, a second time", removed(HULL))
+    yield removal_to("L 0, a second time", removed(HULL, 255), 255)
+
+
+def no_deck_towards_cases():
+    for room in (0, 7, 12):
+        yield towards("L 0, output of %d bytes" % room, HULL, room=room)
+    yield towards("L 0, S 16, 1,000,000 in all four", Ship(steps=16), MILLION, -MILLION, (-MILLION, MILLION))
+    for d in (0, 1, 255, 256, ALL_ONES - 1):
+        yield towards("L 0, deck %d named" % d, HULL, deck=d, no=17)
+    yield towards("L 0, equal points", HULL, to=(1.0, 1.0), no=22)
+    yield towards("L 0, towards an x of %s" % ABOVE, HULL, to=(ABOVE, 1.0), no=16)
+    yield towards("L 0, 16 of the point and 17", HULL, ABOVE, 1.0, deck=0, no=16)
+    yield towards("L 0, 16 of the other point and 17", HULL, to=(1.0, -INFINITY), deck=0, no=16)
+    yield towards("L 0, 16 and 22", HULL, ABOVE, 1.0, (ABOVE, 1.0), no=16)
+    yield towards("L 0, 17 and 22", HULL, to=(1.0, 1.0), deck=0, no=17)
+    yield towards("L 0, 17 and 20", HULL, deck=0, no=17, room=0)
+    yield towards("L 0, 22 and an output of 0 bytes", HULL, to=(1.0, 1.0), no=22, room=0)
 
 
 # ---- ships from a fixed seed
@@ -949,7 +1055,9 @@ GROUPS = [probe_cases, located_deck_cases, located_reach_cases, layer_output_cas
 GROUPS += [named_polygon_cases, candidate_deck_cases, chain_cases, touch_cases, stitched_cases, candidate_output_cases]
 GROUPS += [candidate_question_cases, island_cases, island_deck_cases, entry_range_cases, island_output_cases]
 GROUPS += [stitch_cases, stitch_output_cases, removal_cases, layer_cases, removal_output_cases]
-GROUPS += [step_cases, length_cases, reach_cases, towards_deck_cases, towards_polygon_cases, towards_question_cases, damaged_cases, random_cases]
+GROUPS += [step_cases, length_cases, reach_cases, towards_deck_cases, towards_polygon_cases, towards_question_cases, damaged_cases]
+GROUPS += [no_deck_file_cases, no_deck_place_cases, no_deck_candidate_cases, no_deck_island_cases, no_deck_stitch_cases]
+GROUPS += [no_deck_towards_cases, random_cases]
 
 
 def cases():

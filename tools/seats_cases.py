@@ -5,9 +5,9 @@ write: writes crates/seats_cases/stdin, the cases, and stdout, the answers.
 check: exits with 1 where one of the two files differs from what is computed here.
 list: prints the cases, in the order of their answers in stdout.
 
-Records, entries and heights are worked out from document 01, sections 3 to 7, and document 02, point 1, over exact fractions that
-are rounded once an operation (tools/geometry_cases.py). The number of a refusal is what its case is built to fail, and stands beside the case: nothing
-here asks a question. Nothing of the Rattle code takes part.
+Records, entries and heights are worked out from document 01, sections 3 to 7, and document 02, points 1 and 5, over exact fractions
+that are rounded once an operation (tools/geometry_cases.py). The number of a refusal is what its case is built to fail, and stands
+beside the case: nothing here asks a question. Nothing of the Rattle code takes part.
 
 A place that is an argument is never a NaN, since no float can be made of a NaN's pattern there; NaNs stand in seats, which are
 bytes. The last line of stdout is `bad`, for a case that is cut short.
@@ -22,6 +22,7 @@ sys.path.insert(0, os.path.dirname(os.path.abspath(__file__)))
 sys.dont_write_bytecode = True  # nothing is left beside the tools
 import geometry_cases as g
 import stored_cases
+from ship_cases import LONG_HULL, REFUSED_HULLS, SHORT_HULL
 from ship_file import ALL_ONES, SQUARE, bits, blocked, put, seat, ship_file, u32
 
 MOST_BYTES = 260000  # they fit the program's array
@@ -213,6 +214,7 @@ def level(h, offset=(0.0, 0.0)):
 
 
 EXAMPLE = Ship(SQUARE)
+HULL = Ship()  # document 02, point 5: no decks yet
 EXAMPLE_SEATS = [at(1.0, 1.0), at(5.0, 5.0), at(-0.5, 2.0)]
 L_PLACE, S_PLACE = 0, 8
 ONE = [at(1.0, 1.0)]
@@ -235,7 +237,7 @@ def deck_count_cases():
     yield run("L 256", most, [at(9.0, 9.0), at(9.0, 9.0, wish=1.0), at(9.0, 9.0, 255)])
     yield run("L 256, all blocked but 200", most, [at(9.0, 9.0), at(9.0, 9.0, 255), at(9.0, 9.0, 200)], closed=[d for d in range(256) if d != 200])
     yield run("L 257", Ship(*[POINT] * 257).file, [at(9.0, 9.0)], no=2)
-    yield run("L 0", put(EXAMPLE.file, L_PLACE, 0), ONE, no=2)
+    yield run("L 0", HULL, ONE)
     yield height_call("L 256, polygon 16,777,214 of the last deck", most, 0.0, 0.0, ALL_ONES - 1, no=18)
     yield height_call("L 256, polygon 0 of the last deck", most, 9.0, 9.0, 255 << 24)
 
@@ -299,7 +301,7 @@ def order_cases():
     bad_size = seat(1.0, NAN)
     bad_deck = seat(1.0, 1.0, 1)
     good = seat(1.0, 1.0)
-    yield run("2 and 14", put(EXAMPLE.file, L_PLACE, 0), ONE, no=2, closed=bytes(31))
+    yield run("2 and 14", put(EXAMPLE.file, L_PLACE, 257), ONE, no=2, closed=bytes(31))
     yield run("13 and 14", put(EXAMPLE.file, 164, 4), ONE, no=13, closed=bytes(31))  # C is at 164
     yield run("4 and 15", put(EXAMPLE.file, S_PLACE, 17), bad_kind, no=4)
     yield run("13 and 20", put(EXAMPLE.file, 164, 4), ONE, no=13, room=0)
@@ -317,6 +319,57 @@ def order_cases():
     yield run("15 of seat 0, 17 of seat 1", EXAMPLE, bad_kind + bad_deck, no=15)
     for k in range(3):
         yield run("17 of seat %d of 3" % k, EXAMPLE, good * k + bad_deck + good * (2 - k), no=17)
+
+
+def no_deck_cases():
+    """Document 02, point 5: no seat is placed and nothing is tried."""
+    for name, no, file in REFUSED_HULLS:
+        yield run(name, file, ONE, no=no)
+        yield run(name + ", no seats", file, [], no=no)
+    yield run("L 0, the example's seats", HULL, EXAMPLE_SEATS)
+    yield run("L 0, wishes", HULL, [at(1.0, 1.0, wish=2.0), at(-0.0, MILLION, wish=-MILLION)])
+    yield run("L 0, S 16, reach 1,000", Ship(reach=1000.0, steps=16), EXAMPLE_SEATS)
+    yield run("L 0, S 1, reach -0", Ship(reach=-0.0, steps=1), ONE)
+    yield run("L 0, deck 0 blocked", HULL, ONE, closed=[0])
+    yield run("L 0, every deck blocked", HULL, ONE, closed=range(256))
+    yield run("L 0, no seats", HULL, [])
+    yield run("L 0, no seats, output of 5 bytes", HULL, [], room=5)
+    for count, room, no in [(1, 0, 20), (1, 35, 20), (1, 36, None), (1, 41, None), (3, 72, 20), (3, 107, 20), (3, 108, None), (3, 144, None)]:
+        yield run("L 0, %d seats, output of %d bytes" % (count, room), HULL, EXAMPLE_SEATS[:count], no=no, room=room)
+
+
+def no_deck_order_cases():
+    """Of a hull every deck that is named is one that is not there."""
+    good, named = seat(1.0, 1.0), seat(1.0, 1.0, 0)
+    bad_kind, bad_size = put(good, 12, 2), seat(NAN, 1.0)
+    for d in (0, 1, 255, 256, ALL_ONES - 1):
+        yield run("L 0, deck %d named" % d, HULL, seat(1.0, 1.0, d), no=17)
+    yield run("L 0, deck 0 named, with a wish", HULL, seat(1.0, 1.0, 0, wish=2.0), no=17)
+    for closed in ([0], range(256)):
+        yield run("L 0, deck 0 named, %d blocked" % len(closed), HULL, named, no=17, closed=closed)
+    for k in range(3):
+        yield run("L 0, 17 of seat %d of 3" % k, HULL, good * k + named + good * (2 - k), no=17)
+    yield run("L 0, 1 and 17", SHORT_HULL, named, no=1)
+    yield run("L 0, 6 and 14", LONG_HULL, good, no=6, closed=bytes(31))
+    yield run("L 0, 6 and 15", LONG_HULL, bad_kind, no=6)
+    yield run("L 0, 6 and 17", LONG_HULL, named, no=6)
+    yield run("L 0, 6 and 20", LONG_HULL, good, no=6, room=0)
+    yield run("L 0, blocked set of 33 bytes", HULL, good, no=14, closed=bytes(33))
+    yield run("L 0, no seats, blocked set of 0 bytes", HULL, b"", no=14, closed=b"")
+    yield run("L 0, 14 of the blocked set and 17", HULL, named, no=14, closed=bytes(31))
+    yield run("L 0, 14 of the seats and 17", HULL, named + b"\0", no=14)
+    yield run("L 0, 14 and 20", HULL, good + b"\0", no=14, room=0)
+    yield run("L 0, 15 and 17 of a seat", HULL, put(named, 12, 2), no=15)
+    yield run("L 0, 15 and 20", HULL, bad_kind, no=15, room=0)
+    yield run("L 0, 16 and 17 of a seat", HULL, put(bad_size, 8, 0), no=16)
+    yield run("L 0, 16 of a wish and 17 of a seat", HULL, seat(1.0, 1.0, 0, wish=ABOVE), no=16)
+    yield run("L 0, 16 and 20", HULL, bad_size, no=16, room=0)
+    yield run("L 0, 17 and 20", HULL, named, no=17, room=0)
+    yield run("L 0, 15 of seat 0, 17 of seat 1", HULL, bad_kind + named, no=15)
+    yield run("L 0, 16 of seat 0, 17 of seat 1", HULL, bad_size + named, no=16)
+    yield run("L 0, 17 of seat 0, 15 of seat 1", HULL, named + bad_kind, no=17)
+    yield run("L 0, 17 of seat 0, 16 of seat 1", HULL, named + bad_size, no=17)
+    yield run("L 0, 16 of seat 0, 15 of seat 1", HULL, bad_size + bad_kind, no=16)
 
 
 def output_cases():
@@ -485,7 +538,7 @@ def point_cases():
 def query_cases():
     """Questions of the two calls."""
     for call in (points, point):
-        yield call("L 0", put(EXAMPLE.file, L_PLACE, 0), 1.0, 1.0, no=2, room=12)
+        yield call("L 257", put(EXAMPLE.file, L_PLACE, 257), 1.0, 1.0, no=2, room=12)
         yield call("blocked set of 31 bytes", EXAMPLE, 1.0, 1.0, no=14, closed=bytes(31), room=12)
         yield call("blocked set of 33 bytes", EXAMPLE, 1.0, 1.0, no=14, closed=bytes(33), room=12)
         for x in (MILLION, -MILLION):
@@ -502,6 +555,31 @@ def query_cases():
         yield call("14 and 16", EXAMPLE, INFINITY, 1.0, no=14, closed=bytes(31))
         yield call("16 and 17", EXAMPLE, 1.0, INFINITY, deck=1, no=16)
         yield call("17 and 20", EXAMPLE, 1.0, 1.0, deck=1, no=17, room=0)
+
+
+def no_deck_query_cases():
+    """Document 02, point 5, of the two calls."""
+    for call in (points, point):
+        for name, no, file in REFUSED_HULLS:
+            yield call(name, file, 1.0, 1.0, no=no, room=12)
+        for room in (0, 7, 12):
+            yield call("L 0, output of %d bytes" % room, HULL, 1.0, 1.0, room=room)
+        yield call("L 0, S 16, far out", Ship(steps=16), MILLION, -MILLION)
+        yield call("L 0, every deck blocked", HULL, 1.0, 1.0, closed=range(256))
+        for named in (0, 1, 255, 256, ALL_ONES - 1):
+            yield call("L 0, deck %d named" % named, HULL, 1.0, 1.0, deck=named, no=17, room=12)
+        for closed in ([0], range(256)):
+            yield call("L 0, deck 0 named, %d blocked" % len(closed), HULL, 1.0, 1.0, deck=0, no=17, closed=closed, room=12)
+        yield call("L 0, 1 and 17", SHORT_HULL, 1.0, 1.0, deck=0, no=1)
+        yield call("L 0, 6 and 14", LONG_HULL, 1.0, 1.0, no=6, closed=bytes(31))
+        yield call("L 0, 6 and 16", LONG_HULL, INFINITY, 1.0, no=6)
+        yield call("L 0, 6 and 17", LONG_HULL, 1.0, 1.0, deck=0, no=6)
+        yield call("L 0, blocked set of 31 bytes", HULL, 1.0, 1.0, no=14, closed=bytes(31))
+        yield call("L 0, x of %s" % ABOVE, HULL, ABOVE, 1.0, no=16)
+        yield call("L 0, 14 and 16", HULL, 1.0, -ABOVE, no=14, closed=bytes(33))
+        yield call("L 0, 14 and 17", HULL, 1.0, 1.0, deck=0, no=14, closed=b"")
+        yield call("L 0, 16 and 17", HULL, 1.0, INFINITY, deck=0, no=16)
+        yield call("L 0, 17 and 20", HULL, 1.0, 1.0, deck=0, no=17, room=0)
 
 
 # ---- the height call
@@ -528,7 +606,7 @@ def height_cases():
 
 def height_question_cases():
     ship = Ship(SQUARE, SQUARE)
-    yield height_call("L 0", put(EXAMPLE.file, L_PLACE, 0), 1.0, 1.0, 0, no=2)
+    yield height_call("L 257", put(EXAMPLE.file, L_PLACE, 257), 1.0, 1.0, 0, no=2)
     for x in (ABOVE, -ABOVE, INFINITY, -INFINITY):
         yield height_call("x of %s" % x, ship, x, 1.0, 0, no=16)
         yield height_call("y of %s" % x, ship, 1.0, x, 0, no=16)
@@ -545,6 +623,22 @@ def height_question_cases():
         yield height_call("output of %d bytes" % room, ship, 1.0, 1.0, 0, no=20, room=room)
     for room in (4, 5, 9):
         yield height_call("output of %d bytes" % room, ship, 1.0, 1.0, 0, room=room)
+
+
+def no_deck_height_cases():
+    """Document 02, point 5: all ones alone passes 17."""
+    for name, no, file in REFUSED_HULLS:
+        yield height_call(name + ", all ones", file, 1.0, 1.0, ALL_ONES, no=no)
+        yield height_call(name + ", polygon 0", file, 1.0, 1.0, 0, no=no)
+    for room in (0, 3, 4):
+        yield height_call("L 0, all ones, output of %d bytes" % room, HULL, 1.0, 1.0, ALL_ONES, room=room)
+    yield height_call("L 0, all ones, far out", HULL, -MILLION, MILLION, ALL_ONES)
+    for polygon in (0, 1, 0x00FFFFFF, 255 << 24, ALL_ONES - 1):
+        yield height_call("L 0, %08X" % polygon, HULL, 1.0, 1.0, polygon, no=17)
+    yield height_call("L 0, 6 and 16", LONG_HULL, ABOVE, 1.0, ALL_ONES, no=6)
+    yield height_call("L 0, 16 and all ones", HULL, ABOVE, 1.0, ALL_ONES, no=16)
+    yield height_call("L 0, 16 and 17", HULL, 1.0, -INFINITY, 0, no=16)
+    yield height_call("L 0, 17 and 20", HULL, 1.0, 1.0, 0, no=17, room=0)
 
 
 # ---- ships from a fixed seed
@@ -591,9 +685,10 @@ def random_cases():
 
 # ---- the two files
 
-GROUPS = [example_cases, deck_count_cases, steps_cases, length_cases, kind_cases, size_cases, named_deck_cases, order_cases, output_cases]
-GROUPS += [open_deck_cases, wish_cases, offset_cases, zero_cases, tried_cases, small_polygon_cases, no_length_cases]
-GROUPS += [points_cases, point_cases, query_cases, height_cases, height_question_cases, random_cases]
+GROUPS = [example_cases, deck_count_cases, steps_cases, length_cases, kind_cases, size_cases, named_deck_cases, order_cases]
+GROUPS += [no_deck_cases, no_deck_order_cases, output_cases, open_deck_cases, wish_cases, offset_cases, zero_cases, tried_cases]
+GROUPS += [small_polygon_cases, no_length_cases, points_cases, point_cases, query_cases, no_deck_query_cases]
+GROUPS += [height_cases, height_question_cases, no_deck_height_cases, random_cases]
 
 
 def cases():

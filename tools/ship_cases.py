@@ -6,9 +6,9 @@ check: exits with 1 where one of the two files differs from what is built here.
 list: prints the cases, in the order of the lines of stdout.
 
 A case is its name, its answer and the file's bytes. The answer is the number of the question that the file is built to fail
-(document 01, section 2 and 'The questions, in order'), or PASSED. Nothing here asks a question of a file, and nothing of the
-Rattle code takes part. Question 9 is left out: its no takes 16,777,216 polygons, a file of 128 MiB, and its nearest yes one
-polygon less. The last line of stdout is `bad`, for a length with no file after it.
+(document 01, section 2 and 'The questions, in order', and document 02, point 5), or PASSED. Nothing here asks a question of a file,
+and nothing of the Rattle code takes part. Question 9 is left out: its no takes 16,777,216 polygons, a file of 128 MiB, and its
+nearest yes one polygon less. The last line of stdout is `bad`, for a length with no file after it.
 """
 import os
 import struct
@@ -17,7 +17,7 @@ import sys
 sys.path.insert(0, os.path.dirname(os.path.abspath(__file__)))
 sys.dont_write_bytecode = True  # nothing is left beside the tools
 import stored_cases
-from ship_file import ALL_ONES, EXAMPLE_SHIP, SQUARE, bits, deck_blocks, file_of_blocks, put, ship_file, u32
+from ship_file import ALL_ONES, EXAMPLE_SHIP, NO_DECKS, SQUARE, bits, deck_blocks, file_of_blocks, put, ship_file, u32
 
 PASSED = "passed"
 MOST_BYTES = 250000  # they fit the program's array
@@ -76,13 +76,14 @@ def size_cases():
     yield "1 byte", 1, b"\1"
     yield "11 bytes", 1, EXAMPLE_SHIP[:11]
     yield "11 bytes of zeros", 1, bytes(11)
-    yield "12 bytes of zeros: no decks", 2, bytes(12)
+    yield "12 bytes of zeros: no decks, a reach of 0, S 0", 4, bytes(12)
+    yield "13 bytes of zeros", 4, bytes(13)
     yield "12 bytes: a header that passes, no table", 5, EXAMPLE_SHIP[:12]
     yield "the example of document 01", PASSED, EXAMPLE_SHIP
 
 
 def deck_count_cases():
-    yield "L 0", 2, put(EXAMPLE_SHIP, L_PLACE, 0)
+    yield "L 0", PASSED, NO_DECKS
     yield "L 1", PASSED, ship(POINT)
     yield "L 2", PASSED, ship(SQUARE, TRIANGLES)
     yield "L 256", PASSED, ship(*[POINT] * 256)
@@ -91,6 +92,32 @@ def deck_count_cases():
     yield "L 257, 12 bytes", 2, put(EXAMPLE_SHIP[:12], L_PLACE, 257)
     yield "L all ones", 2, put(EXAMPLE_SHIP, L_PLACE, ALL_ONES)
     yield "L 1 with the high byte first", 2, put(EXAMPLE_SHIP, L_PLACE, 1 << 24)
+
+
+# Document 02, point 5: files of no decks that are refused, with the number. One that passes is its header alone.
+SHORT_HULL = NO_DECKS[:11]
+LONG_HULL = NO_DECKS + b"\0"
+REFUSED_HULLS = [
+    ("L 0, 11 bytes", 1, SHORT_HULL),
+    ("L 0, 13 bytes", 6, LONG_HULL),
+    ("L 0, a deck after the header", 6, put(EXAMPLE_SHIP, L_PLACE, 0)),
+    ("L 0, 3 and 6", 3, put(LONG_HULL, REACH_PLACE, NAN)),
+    ("L 0, 4 and 6", 4, put(LONG_HULL, S_PLACE, 17)),
+]
+
+
+def no_deck_cases():
+    yield from REFUSED_HULLS
+    yield "L 0, 16 bytes", 6, NO_DECKS + bytes(4)
+    yield "L 0, 20 bytes: an offset of 20 and a length of 0", 6, NO_DECKS + u32(20, 0)
+    yield "L 0, 52 bytes of which 40 are zeros", 6, NO_DECKS + bytes(40)
+    yield "L 0, the table of a deck, every block empty", 6, put(ship_of([b""] * 5), L_PLACE, 0)
+    yield "L 0, a table of blocks from 12 to the file's end", 6, NO_DECKS + u32(12, 40, 52, 0, 52, 0, 52, 0, 52, 0)
+    yield "L 0, two decks after the header", 6, put(ship(SQUARE, TRIANGLES), L_PLACE, 0)
+    yield "L 0, a damaged deck after the header", 6, put(EXAMPLE_SHIP, L_PLACE, 0)[:-1]
+    yield "L 0, 1 and 3", 1, put(NO_DECKS, REACH_PLACE, NAN)[:11]
+    yield "L 0, 1 and 4", 1, put(NO_DECKS, S_PLACE, 17)[:11]
+    yield "L 0, 3 and 4", 3, put(NO_DECKS, REACH_PLACE, NAN, 17)
 
 
 def reach_cases():
@@ -111,11 +138,13 @@ def reach_cases():
         ("all ones", ALL_ONES, 3),
     ]:
         yield "reach " + name, answer, put(EXAMPLE_SHIP, REACH_PLACE, pattern)
+        yield "L 0, reach " + name, answer, put(NO_DECKS, REACH_PLACE, pattern)
 
 
 def steps_cases():
     for steps, answer in [(0, 4), (1, PASSED), (16, PASSED), (17, 4), (257, 4), (1 << 24, 4), (ALL_ONES, 4)]:
         yield "S %d" % steps, answer, put(EXAMPLE_SHIP, S_PLACE, steps)
+        yield "L 0, S %d" % steps, answer, put(NO_DECKS, S_PLACE, steps)
 
 
 def table_cases():
@@ -324,7 +353,7 @@ def header_order_cases():
     bad_reach = put(EXAMPLE_SHIP, REACH_PLACE, NAN)
     bad_steps = put(EXAMPLE_SHIP, S_PLACE, 0)
     gap = put(EXAMPLE_SHIP, row(N), 124, 28)
-    yield "2 and 3", 2, put(bad_reach, L_PLACE, 0)
+    yield "2 and 3", 2, put(bad_reach, L_PLACE, 257)
     yield "2 and 4", 2, put(bad_steps, L_PLACE, 257)
     yield "3 and 4", 3, put(bad_steps, REACH_PLACE, bits(-1.0))
     yield "3 and 5", 3, bad_reach[:51]
@@ -356,8 +385,9 @@ def two_deck_cases():
 
 # ---- the two files
 
-GROUPS = [size_cases, deck_count_cases, reach_cases, steps_cases, table_cases, block_cases, whole_rows_cases, empty_cases, height_cases]
-GROUPS += [float_cases, neighbour_list_cases, corner_list_cases, corner_cases, header_order_cases, deck_order_cases, two_deck_cases]
+GROUPS = [size_cases, deck_count_cases, no_deck_cases, reach_cases, steps_cases, table_cases, block_cases, whole_rows_cases, empty_cases]
+GROUPS += [height_cases, float_cases, neighbour_list_cases, corner_list_cases, corner_cases]
+GROUPS += [header_order_cases, deck_order_cases, two_deck_cases]
 
 
 def cases():

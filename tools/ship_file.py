@@ -1,4 +1,5 @@
-"""Ship files, seat lists and blocked sets as bytes (document 01, sections 2, 5 and 7), for the scripts beside this one."""
+"""Ship files, seat lists and blocked sets as bytes (document 01, sections 2, 5 and 7, and document 02, point 5), for the scripts
+beside this one."""
 import struct
 
 ALL_ONES = 0xFFFFFFFF
@@ -67,3 +68,6 @@ SQUARE = {
 # the example of document 01, section 7
 EXAMPLE_SHIP = ship_file([SQUARE], 0.5, 2)
 EXAMPLE_SEATS = seat(1.0, 1.0) + seat(5.0, 5.0) + seat(-0.5, 2.0)
+
+# document 02, point 5: a hull with no decks yet, which is a header alone
+NO_DECKS = ship_file([], 0.5, 2)

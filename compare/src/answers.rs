@@ -3,13 +3,14 @@ use feedercoil::raw::{ANY_DECK, NO_POLYGON};
 use feedercoil::{seat_list, DeckPlan, Seat, ShipPlan, VertexPlan};
 
 use crate::ask::random_call;
-use crate::by_rust::mesh_of;
+use crate::by_rust::{is_sayable, mesh_of};
 use crate::calls::{Answer, Asked, Call, Query, Room};
 use crate::cases::{answer_lines, case_bytes, is_of_run};
 use crate::check::{expected, left_out, tell, Ship};
 use crate::damage::damaged_call;
 use crate::differences::panics;
-use crate::met::{Met, CALL_LEFT_OUT, EQUAL_POINTS, POINTS_OF_DISTANCE_0, SEAT_LEFT_OUT};
+use crate::met::{Met, CALL_LEFT_OUT, EQUAL_POINTS, GOES_ON, POINTS_OF_DISTANCE_0, SEAT_LEFT_OUT};
+use crate::no_decks;
 use crate::outcomes::PROBES;
 use crate::polyanya::direction;
 use crate::questions::file_passes;
@@ -27,7 +28,7 @@ const MOST_LENT: [usize; 2] = [32_768, 4_096];
 const FEW: u64 = 10;
 
 /// What no stored case has: ships that are too large, answers that are not the Rust's, and shapes, which are the generator's words.
-const NOT_STORED: [&str; 24] = [
+const NOT_STORED: [&str; 26] = [
     "grid",
     "fan",
     "rectangles",
@@ -39,6 +40,8 @@ const NOT_STORED: [&str; 24] = [
     CALL_LEFT_OUT,
     EQUAL_POINTS,
     POINTS_OF_DISTANCE_0,
+    GOES_ON,
+    "islands with no decks, one named",
     "refused 1",
     "refused 2",
     "refused 5",
@@ -65,15 +68,17 @@ fn small_ship(random: &mut Random) -> ShipPlan {
     let most = random.one_of(&[200, 250, 300, 600]);
     loop {
         let plan = random_ship(random, &mut Met::new());
-        if plan.file().len() <= most {
+        // Every ship with no decks is small: most of them are passed over, or the cases would be of little else.
+        let passed_over = plan.decks.is_empty() && !random.once_in(10);
+        if plan.file().len() <= most && !passed_over {
             return plan;
         }
     }
 }
 
-/// A ship that the Rust refuses to make, and the library by questions 3, 4, 8 and 10.
+/// A ship that the Rust refuses to make, and the library by questions 3, 4, 8 and 10; with no decks, by 3 and 4.
 fn refused_ship(random: &mut Random, mut plan: ShipPlan) -> ShipPlan {
-    match random.below(5) {
+    match random.below(if plan.decks.is_empty() { 2 } else { 5 }) {
         0 => plan.reach = random.one_of(&[-0.5, f32::NAN, f32::NEG_INFINITY]),
         1 => plan.steps = 0,
         2 => plan.decks[0].polygons.clear(),
@@ -88,7 +93,7 @@ fn is_the_rusts(ship: &mut Ship, plan: &ShipPlan, asked: &Asked, answer: &Answer
     match answer {
         Answer::Refused(3 | 4 | 8 | 10) => panics(|| mesh_of(plan).expect("refused")),
         Answer::Refused(17..=19) if !matches!(asked.call, Call::Islands { deck } if deck as usize >= plan.decks.len()) => {
-            let sayable = asked.call.query().is_none_or(|q| q.deck <= 255 || q.deck == ANY_DECK);
+            let sayable = asked.call.query().is_none_or(|q| is_sayable(q.deck));
             let rust = ship.rust.as_mut().expect("the file passes");
             let refused = panics(|| rust.answer(&asked.call, &asked.blocked));
             rust.set_steps();
@@ -179,7 +184,7 @@ impl Stored {
 fn stored(of_run: bool, met: &mut Met) -> Stored {
     let mut random = Random(0xA115_0E25);
     let mut stored = Stored { cases: vec![], answers: String::new(), count: 0 };
-    for (plan, call) in first_cases() {
+    for (plan, call) in first_cases().into_iter().chain(no_decks::cases()) {
         let asked = Asked { call, blocked: vec![0; 32], output: Room::Just, work: Room::Just };
         stored.add(of_run, &plan, &plan, &asked, u64::MAX, met);
     }

@@ -30,7 +30,11 @@ fn loose_query(plan: &ShipPlan, random: &mut Random) -> Query {
     query
 }
 
+/// A polygon of the ship. Where it has no decks, none, or polygon 0 of deck 0, which is refused.
 fn any_polygon(plan: &ShipPlan, random: &mut Random) -> u32 {
+    if plan.decks.is_empty() {
+        return random.one_of(&[0, NO_POLYGON]);
+    }
     let d = random.index(plan.decks.len());
     (d << 24) as u32 | random.below(plan.decks[d].polygons.len() as u32)
 }
@@ -58,7 +62,7 @@ fn call(plan: &ShipPlan, random: &mut Random) -> Call {
             let named = random.one_of(&[0, 0x0100_0000, 12345]);
             Call::CandidatePolygons { query, polygon: if random.once_in(8) { named } else { NO_POLYGON } }
         }
-        21 | 22 => Call::Islands { deck: random.below(plan.decks.len() as u32) },
+        21 | 22 => Call::Islands { deck: random.below(plan.decks.len().max(1) as u32) },
         23 => Call::StitchPoints,
         24 => Call::RemoveStitches,
         _ => {

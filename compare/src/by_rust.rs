@@ -29,10 +29,12 @@ pub fn layer_of(deck: &DeckPlan) -> Result<Layer, MeshError> {
     Ok(layer)
 }
 
-/// Panics where the Rust asserts that the reach or the steps are others.
+/// Panics where the Rust asserts that the reach or the steps are others. With no decks the mesh is `Mesh::default()`, but for these two.
 pub fn mesh_of(plan: &ShipPlan) -> Result<Mesh, MeshError> {
-    let layers = plan.decks.iter().map(layer_of).collect::<Result<_, _>>()?;
-    let mut mesh = Mesh { layers, search_delta: 0.0, search_steps: 1 };
+    let mut mesh = Mesh::default();
+    for deck in &plan.decks {
+        mesh.layers.push(layer_of(deck)?);
+    }
     mesh.set_search_delta(plan.reach);
     mesh.set_search_steps(plan.steps);
     Ok(mesh)
@@ -47,6 +49,11 @@ pub fn blocked_layers(blocked: &[u8]) -> HashSet<u8> {
 /// Rust's answer is left out there (docs/DIFFERENCES.md).
 pub fn names_blocked(deck: u32, blocked: &HashSet<u8>) -> bool {
     deck != ANY_DECK && blocked.contains(&(deck as u8))
+}
+
+/// Whether the Rust's number can say it, which ends at 255: a deck, or that none is named.
+pub fn is_sayable(deck: u32) -> bool {
+    deck == ANY_DECK || deck <= 255
 }
 
 /// A deck's number for the Rust, which has none above 255.
@@ -112,17 +119,14 @@ impl RustShip {
         }
     }
 
-    // A deck that is not there, and that the Rust's number cannot say, gives nothing: its numbers end at 255.
-    fn sayable(&self, query: Query) -> bool {
-        query.deck == ANY_DECK || query.deck <= 255
-    }
+    // In these three a deck that is not there, and that the Rust's number cannot say, gives nothing.
 
     fn location(&self, query: Query) -> Vec<u8> {
-        bytes_of(&[if self.sayable(query) { self.mesh.get_point_location(coords(query)) } else { NO_POLYGON }])
+        bytes_of(&[if is_sayable(query.deck) { self.mesh.get_point_location(coords(query)) } else { NO_POLYGON }])
     }
 
     fn layers(&self, query: Query) -> Vec<u8> {
-        let found = if self.sayable(query) { self.mesh.get_point_layer(coords(query)) } else { vec![] };
+        let found = if is_sayable(query.deck) { self.mesh.get_point_layer(coords(query)) } else { vec![] };
         found.iter().flat_map(|c| c.polygon().to_le_bytes()).collect()
     }
 
@@ -130,7 +134,7 @@ impl RustShip {
         if polygon != NO_POLYGON {
             return bytes_of(&self.mesh.candidate_polygons(Coords::on_polygon(vec2(query.x, query.y), polygon), blocked));
         }
-        bytes_of(&if self.sayable(query) { self.mesh.candidate_polygons(coords(query), blocked) } else { vec![] })
+        bytes_of(&if is_sayable(query.deck) { self.mesh.candidate_polygons(coords(query), blocked) } else { vec![] })
     }
 
     /// The file of the ship whose lists are the mesh's after a removal.

@@ -5,7 +5,7 @@ use feedercoil::ShipPlan;
 
 use crate::by_rust::{blocked_layers, names_blocked, RustShip};
 use crate::calls::{library, words, Answer, Asked, Call, NAMES};
-use crate::met::{Met, CALL_LEFT_OUT, EQUAL_POINTS, POINTS_OF_DISTANCE_0};
+use crate::met::{no_deck_to_name, with_no_decks, Met, CALL_LEFT_OUT, EQUAL_POINTS, GOES_ON, POINTS_OF_DISTANCE_0};
 use crate::outcomes;
 use crate::questions::{first_no, work_asked};
 
@@ -25,6 +25,11 @@ impl Ship {
         let plan = |file: &[u8]| ShipPlan::read(file).expect("a file that passes has a plan");
         let rust = passes.then(|| RustShip::new(plan(&file)));
         Ship { file, rust }
+    }
+
+    /// Whether it passes and has no decks.
+    fn has_no_decks(&self) -> bool {
+        self.rust.as_ref().is_some_and(|rust| rust.plan.decks.is_empty())
     }
 }
 
@@ -78,20 +83,30 @@ pub fn compare(ship: &mut Ship, asked: &Asked, met: &mut Met) -> Result<(), Stri
     compared.unwrap_or_else(|_| Err(format!("the Rust panics: {asked:?}")))
 }
 
+fn tell_refusal(ship: &Ship, asked: &Asked, number: u32, met: &mut Met) {
+    let name = NAMES[asked.call.number()];
+    met.see(&format!("{name} refused"));
+    met.see(&format!("refused {number}"));
+    met.see_if(number == 6 && ship.file[..4] == [0; 4], GOES_ON);
+    if number == 17 && ship.has_no_decks() {
+        met.see(&no_deck_to_name(name));
+    }
+    if let (22, Call::ClosestPointTowards { query, towards }) = (number, &asked.call) {
+        met.see(if (query.x, query.y) == *towards { EQUAL_POINTS } else { POINTS_OF_DISTANCE_0 });
+    }
+}
+
 /// Tells the counts of an answer on which both agree.
 pub fn tell(ship: &Ship, asked: &Asked, expected: &Expected, met: &mut Met) {
-    let name = NAMES[asked.call.number()];
     let bytes = match &expected.answer {
-        Answer::Refused(number) => {
-            met.see(&format!("{name} refused"));
-            if let (22, Call::ClosestPointTowards { query, towards }) = (number, &asked.call) {
-                met.see(if (query.x, query.y) == *towards { EQUAL_POINTS } else { POINTS_OF_DISTANCE_0 });
-            }
-            return met.see(&format!("refused {number}"));
-        }
+        Answer::Refused(number) => return tell_refusal(ship, asked, *number, met),
         Answer::Wrote(bytes) => bytes,
     };
+    let name = NAMES[asked.call.number()];
     met.see(&format!("{name} answered"));
+    if ship.has_no_decks() {
+        met.see(&with_no_decks(name));
+    }
     met.see_if(asked.call.entry_size() > 0 && expected.output > bytes.len(), "output longer than the answer");
     let rust = ship.rust.as_ref().expect("the file passes");
     match &asked.call {

@@ -30,9 +30,12 @@ fn changed(old: u32, random: &mut Random) -> u32 {
     }
 }
 
-/// A block with bytes added or taken away, and all blocks laid end to end again.
+/// A block with bytes added or taken away, and all blocks laid end to end again. A ship with no decks has no block.
 fn relaid(file: &[u8], random: &mut Random) -> Vec<u8> {
     let pairs = 5 * number(file, 0) as usize;
+    if pairs == 0 {
+        return file.to_vec();
+    }
     let block = |k: usize| file[number(file, 3 + 2 * k) as usize..][..number(file, 4 + 2 * k) as usize].to_vec();
     let mut blocks: Vec<Vec<u8>> = (0..pairs).map(block).collect();
     let k = random.index(pairs);
@@ -75,6 +78,13 @@ pub fn damaged_file(plan: &ShipPlan, random: &mut Random) -> Ship {
 
 fn absent_deck(plan: &ShipPlan, random: &mut Random) -> u32 {
     random.one_of(&[plan.decks.len() as u32, 256, 257, 0x0100_0000, ANY_DECK - 1])
+}
+
+/// The number after the last polygon of a deck. With no decks, every polygon is absent.
+fn absent_polygon(plan: &ShipPlan, random: &mut Random) -> u32 {
+    let d = random.index(plan.decks.len().max(1));
+    let polygons = plan.decks.get(d).map_or(0, |deck| deck.polygons.len());
+    (d << 24 | polygons) as u32
 }
 
 fn damage_seats(plan: &ShipPlan, seats: &mut Vec<u8>, random: &mut Random) {
@@ -128,10 +138,7 @@ pub fn damaged_call(plan: &ShipPlan, random: &mut Random) -> Asked {
         Call::Height { x, polygon, .. } => match random.below(4) {
             0 => *x = wrong_float(random),
             1 => *polygon = random.one_of(&[0xFF00_0000, 0xFEFF_FFFF, (plan.decks.len() as u32 % 256) << 24]),
-            _ => {
-                let d = random.index(plan.decks.len());
-                *polygon = (d << 24 | plan.decks[d].polygons.len()) as u32;
-            }
+            _ => *polygon = absent_polygon(plan, random),
         },
         Call::Islands { deck } => {
             let absent = absent_deck(plan, random);

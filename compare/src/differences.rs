@@ -57,7 +57,7 @@ fn library_height(plan: &ShipPlan, polygon: u32) -> Result<Option<f32>, Refusal>
 /// What the first column of the table says, and whether both sides are as it says.
 pub type Difference = (&'static str, fn() -> bool);
 
-pub const DIFFERENCES: [Difference; 20] = [
+pub const DIFFERENCES: [Difference; 19] = [
     ("the height on an edge whose squared length rounds to 0", || {
         let plan = ship(vec![point(&[1.0])]);
         let height = Coords::on_polygon(vec2(0.0, 0.0), 0).height(&rust(&plan));
@@ -92,16 +92,16 @@ pub const DIFFERENCES: [Difference; 20] = [
         height.is_none() && library_height(&plan, 1) == Err(Refusal(18))
     }),
     ("an absent deck or polygon", || {
-        let plan = ship(vec![point(&[1.0])]);
-        let mesh = rust(&plan);
-        let deck = panics(|| found(&mesh, Coords::on_layer(vec2(0.0, 0.0), 1)));
-        let polygon = panics(|| Coords::on_polygon(vec2(0.0, 0.0), 1).height(&mesh));
-        let seat = Seat { deck: Some(1), ..Seat::at(0.0, 0.0) };
-        deck && polygon && record(&plan, seat) == Err(Refusal(17)) && library_height(&plan, 1) == Err(Refusal(18))
+        let (none, one) = (ship(vec![]), ship(vec![point(&[1.0])]));
+        let meshes = [&none, &one].map(rust);
+        let deck = panics(|| found(&meshes[0], Coords::on_layer(vec2(0.0, 0.0), 0)));
+        let polygon = panics(|| Coords::on_polygon(vec2(0.0, 0.0), 1).height(&meshes[1]));
+        let seat = Seat { deck: Some(0), ..Seat::at(0.0, 0.0) };
+        deck && polygon && record(&none, seat) == Err(Refusal(17)) && library_height(&one, 1) == Err(Refusal(18))
     }),
     ("the islands of an absent deck", || {
-        let plan = ship(vec![point(&[])]);
-        rust(&plan).layers.get(1).is_none() && Ship::new(plan.file()).bake_islands_detection(1) == Err(Refusal(17))
+        let plan = ship(vec![]);
+        rust(&plan).layers.is_empty() && Ship::new(plan.file()).bake_islands_detection(0) == Err(Refusal(17))
     }),
     ("the islands of a deck with an entry out of range at a used vertex", || {
         let mut plan = ship(vec![point(&[])]);
@@ -118,12 +118,6 @@ pub const DIFFERENCES: [Difference; 20] = [
     ("decks of 256 and more", || {
         let plan = ship(vec![point(&[])]);
         u8::try_from(256).is_err() && record(&plan, Seat { deck: Some(256), ..Seat::at(0.0, 0.0) }) == Err(Refusal(17))
-    }),
-    ("no deck", || {
-        let plan = ship(vec![]);
-        let mesh = rust(&plan);
-        let named = panics(|| found(&mesh, Coords::on_layer(vec2(0.0, 0.0), 0)));
-        found(&mesh, vec2(0.0, 0.0)).is_empty() && named && refused(&plan, 2)
     }),
     ("more than 256 decks", || {
         let far = deck(&[(5.0, 5.0), (6.0, 5.0), (5.0, 6.0)], &[0, 1, 2], &[]);

@@ -12,6 +12,7 @@ mod instructions;
 mod large;
 mod lists;
 mod met;
+mod no_decks;
 mod outcomes;
 mod points;
 mod polyanya;
@@ -100,6 +101,7 @@ fn compare_all(calls: u64, seed: u64) {
         fail(&format!("{towards} calls of {} found a place towards a point", ways::CALLS));
     }
     let long = large::lists(&mut |difference| fail(difference));
+    let (of_none, named) = no_decks::every_call(&mut |difference| fail(difference));
     let mut met = Met::new();
     rounds::random_calls(calls, seed, &mut met, &mut |number, file, difference| {
         fail(&format!("call {number}: {difference}\nthe ship {:?}", feedercoil::ShipPlan::read(file)));
@@ -116,6 +118,7 @@ fn compare_all(calls: u64, seed: u64) {
     println!("compare: each of {hit} samples of 16 steps was a seat's place, in {} calls", rings::CALLS);
     println!("compare: each of 16 steps towards {} points found its place, in {towards} calls", ways::PAIRS);
     println!("compare: {long} calls with long lists agree");
+    println!("compare: {of_none} calls with no decks agree with `Mesh::default()`; {named} of them name a deck, at which it panics");
     let (seats, calls) = (met.count(SEAT_LEFT_OUT), met.count(CALL_LEFT_OUT));
     println!("compare: left out, and held to document 02: {seats} seats and {calls} closest-point calls that name a blocked deck");
     println!("compare: {} random calls agree", met.calls);

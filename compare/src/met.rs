@@ -11,12 +11,27 @@ pub const CALL_LEFT_OUT: &str = "closest-point call left out: it names a blocked
 pub const EQUAL_POINTS: &str = "towards an equal point";
 pub const POINTS_OF_DISTANCE_0: &str = "towards another point, at a squared distance of 0";
 
+/// Whose first number is 0 and whose length is not the header's.
+pub const GOES_ON: &str = "file with no decks that goes on after its header";
+
+/// An answered call of a ship with no decks, and one that 17 is said of, as a deck is named.
+pub fn with_no_decks(call: &str) -> String {
+    format!("{call} with no decks")
+}
+pub fn no_deck_to_name(call: &str) -> String {
+    format!("{call} with no decks, one named")
+}
+
+/// The calls that ask 17. Islands do always.
+const NAMING: [&str; 6] = ["run", "closest_points", "closest_point", "closest_point_towards", "height", "islands"];
+
 /// Kinds of ships, points and answers. To these come each call, step, probe and number of a refusal.
-const KINDS: [&str; 71] = [
+const KINDS: [&str; 73] = [
     "grid",
     "fan",
     "rectangles",
     "soup",
+    "no decks",
     "1 deck",
     "2 to 4 decks",
     "250 to 255 decks",
@@ -84,6 +99,7 @@ const KINDS: [&str; 71] = [
     "entry of another deck dropped",
     "removal to a layer without a deck",
     "output longer than the answer",
+    GOES_ON,
 ];
 
 pub struct Met {
@@ -98,6 +114,8 @@ impl Met {
         let answers = |name: &&str| [format!("{name} answered"), format!("{name} refused")];
         let mut names: Vec<String> = NAMES.iter().flat_map(answers).collect();
         names.extend(KINDS.iter().map(|kind| kind.to_string()));
+        names.extend(NAMES.iter().filter(|&&name| name != "islands").map(|name| with_no_decks(name)));
+        names.extend(NAMING.iter().map(|name| no_deck_to_name(name)));
         names.extend((0..16).map(|step| format!("step {step}")));
         names.extend((0..9).map(|probe| format!("probe {probe}")));
         names.extend((1..=20).chain([22]).map(|number| format!("refused {number}")));

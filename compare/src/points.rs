@@ -88,8 +88,17 @@ fn set(plan: &ShipPlan, x: f32) -> f32 {
     }
 }
 
+/// A point where there is no deck to be near to.
+fn anywhere(plan: &ShipPlan, random: &mut Random) -> Point {
+    let (x, y) = if random.once_in(3) { outside(random) } else { (random.coordinate(8), random.coordinate(8)) };
+    (set(plan, x), set(plan, y))
+}
+
 /// A point around a ship.
 pub fn random_point(plan: &ShipPlan, random: &mut Random) -> Point {
+    if plan.decks.is_empty() {
+        return anywhere(plan, random);
+    }
     let deck = &plan.decks[random.index(plan.decks.len())];
     let (x, y) = match random.below(16) {
         0..=2 => corner(deck, random.below(deck.vertices.len() as u32)),
@@ -138,15 +147,15 @@ pub fn random_points(plan: &ShipPlan, random: &mut Random) -> (Point, Point) {
             (point, point)
         }
         1..=4 => ((next_to_0(random), next_to_0(random)), (next_to_0(random), next_to_0(random))),
-        5..=11 => on_the_way(plan, random),
+        5..=11 if !plan.decks.is_empty() => on_the_way(plan, random),
         _ => (random_point(plan, random), random_point(plan, random)),
     }
 }
 
-/// A deck of the ship, or none named.
+/// A deck of the ship, or none named. Where it has no decks, 0 may be named all the same, which is refused.
 pub fn random_deck(plan: &ShipPlan, random: &mut Random) -> u32 {
     if random.once_in(3) {
-        random.below(plan.decks.len() as u32)
+        random.below(plan.decks.len().max(1) as u32)
     } else {
         ANY_DECK
     }

@@ -22,6 +22,7 @@ fn area(deck: &DeckPlan, k: usize) -> f64 {
 
 pub fn ship(met: &mut Met, plan: &ShipPlan) {
     met.see(match plan.decks.len() {
+        0 => "no decks",
         1 => "1 deck",
         2..=4 => "2 to 4 decks",
         256 => "256 decks",

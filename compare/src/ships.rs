@@ -133,8 +133,17 @@ fn random_deck(random: &mut Random, met: &mut Met) -> DeckPlan {
     deck
 }
 
-/// A ship of one to four decks, now and then of 250 to 256.
+/// A ship with no decks yet.
+fn no_decks(random: &mut Random) -> ShipPlan {
+    let reach = random.one_of(&[0.0, -0.0, 0.07, 0.5, 1000.0]);
+    ShipPlan { reach, steps: 1 + random.below(16), decks: vec![] }
+}
+
+/// A ship of one to four decks, now and then of none or of 250 to 256.
 pub fn random_ship(random: &mut Random, met: &mut Met) -> ShipPlan {
+    if random.once_in(25) {
+        return no_decks(random);
+    }
     let many = random.once_in(50);
     let scale = random.one_of(&[1.0, 1.0, 1.0, 1.0, 1.0, 1e-3, 1e-5, 30_000.0]);
     let shift =

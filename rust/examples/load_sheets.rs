@@ -44,13 +44,15 @@ impl Random {
         deck
     }
 
+    /// Now and then a ship with no decks.
     fn plan(&mut self) -> ShipPlan {
-        ShipPlan { reach: self.place(1), steps: 1 + self.below(3), decks: (0..1 + self.below(4)).map(|_| self.deck()).collect() }
+        let decks = if self.below(20) == 0 { 0 } else { 1 + self.below(4) };
+        ShipPlan { reach: self.place(1), steps: 1 + self.below(3), decks: (0..decks).map(|_| self.deck()).collect() }
     }
 
     fn seat(&mut self, decks: u32) -> Seat {
         let mut seat = Seat::at(self.place(9), self.place(7));
-        seat.deck = if self.below(4) == 0 { Some(self.below(decks)) } else { None };
+        seat.deck = if decks > 0 && self.below(4) == 0 { Some(self.below(decks)) } else { None };
         seat.wish = if self.below(3) == 0 { Some(self.place(4)) } else { None };
         seat
     }
@@ -80,7 +82,7 @@ fn main() -> io::Result<()> {
         let decks = plan.decks.len() as u32;
         let mut blocked = [0; BLOCKED_SIZE];
         if random.below(3) == 0 {
-            blocked[0] = 1 << random.below(decks);
+            blocked[0] = 1 << random.below(4);
         }
         let seats: Vec<Seat> = (0..random.below(25)).map(|_| random.seat(decks)).collect();
         let list = seat_list(&seats);

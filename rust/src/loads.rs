@@ -38,7 +38,7 @@ use crate::PackedPolygon;
 /// ```
 #[derive(Debug, Clone, PartialEq, Eq, Hash, Default)]
 pub struct LoadSheet {
-    /// Those of each deck, decks rising.
+    /// Those of each deck, decks rising. None of a ship with no decks, where every seat is unplaced.
     pub decks: Vec<DeckLoads>,
     /// Seats that stand on no deck.
     pub unplaced: u64,
@@ -157,6 +157,17 @@ mod tests {
         }
         assert_eq!(LoadSheet::read(&file[..11], &bytes), None);
         assert_eq!(LoadSheet::read(&[], &[]), None);
+    }
+
+    #[test]
+    fn no_decks() {
+        let file = ship(&[]);
+        assert_eq!((file.len(), sheet_size(0, 0)), (12, 8));
+        let sheet = LoadSheet::read(&file, &table(&[7, 1])).unwrap();
+        assert_eq!(sheet, LoadSheet { decks: vec![], unplaced: 7 });
+        assert_eq!((sheet.polygon(PackedPolygon(0)), sheet.island(PackedPolygon(0))), (None, None));
+        assert_eq!(sheet.checked_add(&sheet), Some(LoadSheet { decks: vec![], unplaced: 14 }));
+        assert_eq!(LoadSheet::read(&file, &table(&[7])[..7]), None);
     }
 
     #[test]

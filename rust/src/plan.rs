@@ -28,11 +28,27 @@ pub struct DeckPlan {
 }
 
 /// A ship: what a ship file says. Nothing is judged here; what is wrong with a plan, the library says of its file.
+///
+/// A new project begins with no decks, a file of 12 bytes. No seat is placed on it, and it has no deck that a seat can name:
+///
+/// ```
+/// use feedercoil::{BlockedDecks, Refusal, Seat, SeatRecord, Ship, ShipPlan};
+///
+/// let plan = ShipPlan { reach: 0.5, steps: 2, decks: vec![] };
+/// assert_eq!(plan.file(), [0, 0, 0, 0, 0, 0, 0, 0x3F, 2, 0, 0, 0]);
+///
+/// let ship = Ship::new(plan.file());
+/// let seat = Seat::at(1.0, 1.0);
+/// assert_eq!(ship.run(&BlockedDecks::new(), &[seat])?, [SeatRecord::Unplaced { tried: 0 }]);
+/// assert_eq!(ship.run(&BlockedDecks::new(), &[Seat { deck: Some(0), ..seat }]), Err(Refusal(17)));
+/// # Ok::<(), Refusal>(())
+/// ```
 #[derive(Debug, Clone, PartialEq, Default)]
 pub struct ShipPlan {
     /// How far a step of the search goes beyond the one before.
     pub reach: f32,
     pub steps: u32,
+    /// At most 256.
     pub decks: Vec<DeckPlan>,
 }
 

@@ -4,7 +4,7 @@ use std::fmt;
 /// What each number says of the input, 1 first.
 const SENTENCES: [&str; 22] = [
     "The ship file is shorter than its header of 12 bytes.",
-    "The ship has no deck, or more than 256.",
+    "The ship has more than 256 decks.",
     "The reach is not a number from 0 to 1,000.",
     "The number of steps is not from 1 to 16.",
     "The ship file ends before its table of blocks does.",

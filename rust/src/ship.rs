@@ -137,7 +137,8 @@ impl<'a> Ship<'a> {
         blocked: &BlockedDecks,
     ) -> Result<Vec<PackedPolygon>, Refusal> {
         let polygons = polygon_total(&self.file);
-        let mut out = vec![0; POLYGON_SIZE * polygons];
+        // A named polygon comes back also where the ship has none.
+        let mut out = vec![0; POLYGON_SIZE * polygons.max(1)];
         let mut work = vec![0; WORK_SIZE * polygons];
         let named = polygon.unwrap_or(PackedPolygon::NONE).0;
         let count = raw::candidate_polygons(&self.file, x, y, deck.unwrap_or(ANY_DECK), named, blocked.as_bytes(), &mut out, &mut work)?;

@@ -1,6 +1,6 @@
 //! Each call on small ships, with answers worked out by hand from document 01.
 mod common;
-use common::{example, one_polygon, square, stacked, still, OUTSIDE, SQUARE};
+use common::{example, no_decks, one_polygon, square, stacked, still, OUTSIDE, SQUARE};
 use feedercoil::{BlockedDecks, Candidate, DeckPlan, PackedPolygon, Refusal, Seat, SeatRecord, Ship, ShipPlan, StitchPoint, VertexPlan};
 
 fn blocked(decks: &[u8]) -> BlockedDecks {
@@ -45,6 +45,54 @@ fn run_on_two_decks() {
     let absent = Seat { deck: Some(2), ..at };
     assert_eq!(ship.run(&blocked(&[2]), &[absent]), Err(Refusal(17)), "an absent deck, whatever its bit");
     assert_eq!(run(nothing, Seat { deck: Some(1), wish: Some(0.0), ..at }).packed(), Some(PackedPolygon::new(1, 0)));
+}
+
+/// Document 02, point 5: nothing is laid out yet.
+#[test]
+fn no_decks_yet() {
+    let ship = Ship::new(no_decks().file());
+    let nothing = BlockedDecks::new();
+    let (at, unplaced) = (Seat::at(1.0, 1.0), SeatRecord::Unplaced { tried: 0 });
+    assert_eq!(ship.run(&nothing, &[]), Ok(vec![]));
+    assert_eq!(ship.run(&nothing, &[at, Seat { wish: Some(2.0), ..at }]), Ok(vec![unplaced; 2]));
+    assert_eq!(ship.run(&blocked(&[0, 255]), &[at]), Ok(vec![unplaced]));
+    assert_eq!(ship.get_closest_points_on_layers(1.0, 1.0, None, &nothing), Ok(vec![]));
+    assert_eq!(ship.get_closest_point_on_layers(1.0, 1.0, None, &nothing), Ok(None));
+    assert_eq!(ship.get_closest_point_towards(1.0, 1.0, (3.0, 1.0), None), Ok(None));
+    assert_eq!(ship.get_closest_point_towards(1.0, 1.0, (1.0, 1.0), None), Err(Refusal(22)), "22 is asked all the same");
+    assert_eq!(ship.height(1.0, 1.0, PackedPolygon::NONE), Ok(None));
+    assert_eq!(ship.get_point_location(1.0, 1.0, None), Ok(None));
+    assert_eq!(ship.get_point_layer(1.0, 1.0, None), Ok(vec![]));
+    assert_eq!(ship.candidate_polygons(1.0, 1.0, None, None, &nothing), Ok(vec![]));
+    assert_eq!(ship.candidate_polygons(1.0, 1.0, None, Some(PackedPolygon(0)), &nothing), Ok(packed(&[0])), "unchecked");
+    assert_eq!(ship.find_stitch_points(), Ok(vec![]));
+    assert_eq!(ship.remove_stitches().unwrap(), ship);
+    assert_eq!(ship.remove_stitches_to_layer(0).unwrap(), ship);
+}
+
+#[test]
+fn no_deck_to_name() {
+    let ship = Ship::new(no_decks().file());
+    let nothing = BlockedDecks::new();
+    let at = Seat::at(1.0, 1.0);
+    for deck in [0, 1, 255, 256, u32::MAX - 1] {
+        let named = Some(deck);
+        for blocked in [&nothing, &blocked(&[0, 1, 255])] {
+            assert_eq!(ship.run(blocked, &[at, Seat { deck: named, ..at }]), Err(Refusal(17)));
+            assert_eq!(ship.get_closest_points_on_layers(1.0, 1.0, named, blocked), Err(Refusal(17)));
+            assert_eq!(ship.get_closest_point_on_layers(1.0, 1.0, named, blocked), Err(Refusal(17)));
+            assert_eq!(ship.candidate_polygons(1.0, 1.0, named, None, blocked), Ok(vec![]));
+        }
+        assert_eq!(ship.get_closest_point_towards(1.0, 1.0, (1.0, 1.0), named), Err(Refusal(17)), "before 22");
+        assert_eq!(ship.get_point_location(1.0, 1.0, named), Ok(None));
+        assert_eq!(ship.get_point_layer(1.0, 1.0, named), Ok(vec![]));
+        assert_eq!(ship.bake_islands_detection(deck), Err(Refusal(17)));
+    }
+    assert_eq!(ship.bake_islands_detection(u32::MAX), Err(Refusal(17)));
+    for polygon in [0, 1, 0x0100_0000, 0xFF00_0000, u32::MAX - 1] {
+        assert_eq!(ship.height(1.0, 1.0, PackedPolygon(polygon)), Err(Refusal(17)));
+        assert_eq!(ship.candidate_polygons(1.0, 1.0, Some(0), Some(PackedPolygon(polygon)), &nothing), Ok(packed(&[polygon])));
+    }
 }
 
 #[test]

@@ -63,6 +63,6 @@ fn rows_run_by_program() {
     let ship = |decks| still(vec![one_polygon(&SQUARE[..1]); decks]).file();
     passed_by_all(&ship(256));
     refused_by_all(&ship(257), 2);
-    refused_by_all(&ship(0), 2);
+    assert_eq!(Ship::new(ship(0)).check(), Ok(()), "0 passes since document 02, point 5");
     assert_eq!(Ship::new(example().file()).run(&BlockedDecks::new(), &[]).unwrap(), []);
 }

@@ -1,6 +1,6 @@
 //! What a call does to lent output and work: question 20, output past the answer, work all zeros, empty slices.
 mod common;
-use common::{example, lend, square, stacked, still, Random, CALLS, LENT};
+use common::{example, lend, no_decks, square, stacked, still, Random, CALLS, LENT};
 use feedercoil::raw::{self, ANY_DECK, NO_POLYGON};
 use feedercoil::{Refusal, ShipPlan};
 
@@ -13,7 +13,8 @@ fn lend_each(plan: &ShipPlan) {
     let file = plan.file();
     let in_all: usize = plan.decks.iter().map(|d| d.polygons.len()).sum();
     for (name, size, call) in CALLS {
-        let polygons = if name == "islands" { plan.decks[0].polygons.len() } else { in_all };
+        let of_first = plan.decks.first().map_or(0, |deck| deck.polygons.len());
+        let polygons = if name == "islands" { of_first } else { in_all };
         let a_polygon = if name == "run_loads" { 8 } else { 4 };
         let work = if needs_work(name) { a_polygon * polygons } else { 0 };
         let room = 16 * file.len();
@@ -21,6 +22,7 @@ fn lend_each(plan: &ShipPlan) {
         let count = match answer {
             Ok(count) => count,
             Err(Refusal(19)) if name == "islands" || name == "run_loads" => continue,
+            Err(Refusal(17)) if plan.decks.is_empty() && (name == "islands" || name == "height") => continue,
             Err(refusal) => panic!("{name}: {refusal}"),
         };
         let bytes = size * count;
@@ -45,6 +47,7 @@ fn lend_each(plan: &ShipPlan) {
 #[test]
 fn room() {
     lend_each(&example());
+    lend_each(&no_decks());
     lend_each(&still(vec![square(), stacked(&[&[1], &[2], &[], &[]]), square()]));
     lend_each(&still(vec![stacked(&[&[1], &[2], &[], &[]]); 3]));
     let mut random = Random(0x5EA7_5EA7_5EA7_5EA7);
@@ -77,6 +80,15 @@ fn empty_slices() {
     let file = example().file();
     for (name, _, call) in CALLS {
         assert_eq!(lend(name, call, &[], 0, 0).0, Err(Refusal(1)), "{name}");
+    }
+    // With no decks nothing but a seat's record and the new file is written.
+    for (name, size, call) in CALLS {
+        let answer = lend(name, call, &no_decks().file(), 0, 0).0;
+        match name {
+            "height" | "islands" => assert_eq!(answer, Err(Refusal(17)), "{name}"),
+            "run" | "run_loads" | "remove_stitches" | "remove_stitches_to_layer" => assert_eq!(answer, Err(Refusal(20)), "{name}"),
+            _ => assert_eq!(size * answer.unwrap(), 0, "{name}"),
+        }
     }
     // Answers of no entries need no output.
     assert_eq!(raw::run(&file, &[0; 32], &[], &mut []), Ok(0));

@@ -1,6 +1,6 @@
 //! Document 02, point 4: the load sheet, with counts worked out by hand, and on random ships with counts made from the records.
 mod common;
-use common::{example, Random, LENT, OUTSIDE};
+use common::{example, no_decks, Random, LENT, OUTSIDE};
 use feedercoil::raw;
 use feedercoil::{
     seat_list, BlockedDecks, DeckLoads, DeckPlan, LoadSheet, PackedPolygon, Refusal, Seat, SeatRecord, Ship, ShipPlan, VertexPlan,
@@ -119,6 +119,33 @@ fn the_tables_bytes() {
     assert_eq!(lend(&file, &[], [0, need[1], need[2] - 1]).0, Err(Refusal(20)));
 }
 
+/// One count, the unplaced, and no work.
+#[test]
+fn no_decks_yet() {
+    let (file, list) = (no_decks().file(), seat_list(&[Seat::at(0.0, 0.0), Seat { wish: Some(1.0), ..Seat::at(9.0, 9.0) }]));
+    let ship = Ship::new(&file);
+    let sheet = |unplaced| LoadSheet { decks: vec![], unplaced };
+    let unplaced = SeatRecord::Unplaced { tried: 0 };
+    assert_eq!(ship.run_list_loads(&[0; 32], &list), Ok((vec![unplaced; 2], sheet(2))));
+    assert_eq!(ship.run_list_loads(&[255; 32], &list), Ok((vec![unplaced; 2], sheet(2))), "every deck's bit set");
+    assert_eq!(ship.run_loads(&BlockedDecks::new(), &[]), Ok((vec![], sheet(0))));
+    let (answer, [out, table, work]) = lend(&file, &list, [72, 8, 0]);
+    assert_eq!((answer, table, work), (Ok(2), bytes(&[2]), vec![]));
+    let record = [&[255u8; 4][..], &[0; 32]].concat();
+    assert_eq!(out, [&record[..], &record].concat());
+    let (answer, [_, table, work]) = lend(&file, &list, [72, 17, 9]);
+    assert_eq!((answer, &table[..8], &table[8..], work), (Ok(2), &bytes(&[2])[..], &[LENT; 9][..], vec![0; 9]));
+    for short in [[71, 8, 0], [0, 8, 0], [72, 7, 0], [72, 0, 0]] {
+        assert_eq!(lend(&file, &list, short).0, Err(Refusal(20)), "{short:?}");
+    }
+    for deck in [0, 1, 255, 256] {
+        let named = seat_list(&[Seat::at(0.0, 0.0), Seat { deck: Some(deck), ..Seat::at(0.0, 0.0) }]);
+        assert_eq!(lend(&file, &named, [0; 3]).0, Err(Refusal(17)));
+    }
+    let (_, part) = ship.run_loads(&BlockedDecks::new(), &[Seat::at(3.0, 3.0)]).unwrap();
+    assert_eq!(part.checked_add(&sheet(2)), Some(sheet(3)));
+}
+
 /// docs/FORMAT.md's example.
 #[test]
 fn the_documents_table() {
@@ -206,9 +233,9 @@ fn random_ships() {
         let plan = random_plan(&mut random);
         let decks = plan.decks.len() as u32;
         let ship = Ship::new(plan.file());
-        let blocked: BlockedDecks = (0..random.below(2)).map(|_| random.below(decks) as u8).collect();
+        let blocked: BlockedDecks = (0..random.below(2)).map(|_| random.below(4) as u8).collect();
         let seat = |random: &mut Random| Seat {
-            deck: if random.below(3) == 0 { Some(random.below(decks)) } else { None },
+            deck: random.named_deck(decks),
             wish: if random.below(3) == 0 { Some(random.float()) } else { None },
             ..Seat::at(random.float(), random.float())
         };

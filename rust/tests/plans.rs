@@ -1,6 +1,6 @@
 //! Plans and their files: reading back what was written, and what removal makes of a plan.
 mod common;
-use common::{example, Random, OUTSIDE};
+use common::{example, no_decks, square, Random, OUTSIDE};
 use feedercoil::{PackedPolygon, Ship, ShipPlan, StitchPoint};
 
 #[test]
@@ -13,6 +13,25 @@ fn read_back() {
         assert_eq!(Ship::new(&file).check(), Ok(()));
         assert_eq!(Ship::new(file).plan(), Some(plan));
     }
+}
+
+/// docs/FORMAT.md's file of a new project, which stays a plan's file until it has its first deck.
+#[test]
+fn a_new_project() {
+    let file = [0u8, 0, 0, 0, 0, 0, 0, 0x3F, 2, 0, 0, 0];
+    let mut plan = no_decks();
+    assert_eq!(plan.file(), file);
+    assert_eq!(ShipPlan::read(&file), Some(plan.clone()));
+    assert_eq!(ShipPlan::read(&file[..11]), None);
+    assert_eq!(ShipPlan::read(&[&file[..], &[0]].concat()), None);
+    let ship = Ship::new(&file[..]);
+    assert_eq!(ship.remove_stitches().unwrap().file(), file);
+    for layer in [0, 1, 255] {
+        assert_eq!(ship.remove_stitches_to_layer(layer).unwrap().file(), file);
+    }
+    plan.decks.push(square());
+    assert_eq!(plan, example());
+    assert_eq!(Ship::new(plan.file()).check(), Ok(()));
 }
 
 /// Plans that the library refuses have a file all the same, which reads back.

@@ -43,9 +43,10 @@ fn relaid(random: &mut Random, file: &[u8]) -> Vec<u8> {
 fn the_first_question_that_fails() {
     let mut random = Random(0x9E37_79B9_7F4A_7C15);
     let mut seen = [0u32; 14];
+    let (mut no_decks, mut too_long) = (0, 0);
     for _ in 0..60_000 {
         let mut file = random.plan().file();
-        if random.below(3) == 0 {
+        if random.below(3) == 0 && file.len() > 12 {
             file = relaid(&mut random, &file);
         }
         for _ in 0..random.below(3) {
@@ -61,8 +62,11 @@ fn the_first_question_that_fails() {
         }
         let expected = first_question(&file);
         seen[expected.unwrap_or(0) as usize] += 1;
+        no_decks += u32::from(expected.is_none() && file.len() == 12);
+        too_long += u32::from(expected == Some(6) && file[..4] == [0; 4]);
         assert_eq!(Ship::new(&file).check().err(), expected.map(Refusal), "{file:02X?}");
     }
+    assert!(no_decks > 1000 && too_long > 100, "{no_decks} of no decks, {too_long} that go on after their header");
     // Each question but 9, which wants a file of 128 megabytes.
     assert!(seen.iter().enumerate().all(|(k, &count)| k == 9 || count >= 20), "{seen:?}");
 }

@@ -1,6 +1,6 @@
 //! Each question's number, by every call that asks it, and that a refusal alters nothing lent (`lend` sees to that).
 mod common;
-use common::{example, lend, one_polygon, passed_by_all, refused_by_all, square, still, with_table, Call, SQUARE};
+use common::{example, lend, no_decks, one_polygon, passed_by_all, refused_by_all, square, still, with_table, Call, SQUARE};
 use feedercoil::raw::{self, ANY_DECK, NO_POLYGON};
 use feedercoil::{BlockedDecks, Candidate, DeckPlan, PackedPolygon, Refusal, Seat, Ship, ShipPlan, VertexPlan};
 
@@ -41,7 +41,6 @@ fn questions_1_to_6() {
     passed_by_all(&file);
     refused_by_all(&[], 1);
     refused_by_all(&file[..11], 1);
-    refused_by_all(&with(0, 0), 2);
     refused_by_all(&with(0, 257), 2);
     refused_by_all(&with(0, u32::MAX), 2);
     for reach in [f32::NAN, f32::INFINITY, -1.0, -f32::MIN_POSITIVE, 1000.0625] {
@@ -63,6 +62,37 @@ fn questions_1_to_6() {
     refused_by_all(&with(16, 76), 6);
     refused_by_all(&with(20, u32::MAX), 6);
     refused_by_all(&with(48, u32::MAX), 6);
+}
+
+/// Document 02, point 5: with no decks the file ends with its header.
+#[test]
+fn questions_of_no_decks() {
+    let file = no_decks().file();
+    assert_eq!(file.len(), 12);
+    assert_eq!(Ship::new(&file).check(), Ok(()));
+    for length in 0..12 {
+        refused_by_all(&file[..length], 1);
+    }
+    for more in [1, 2, 40, 184] {
+        refused_by_all(&[&file[..], &vec![0u8; more]].concat(), 6);
+    }
+    refused_by_all(&with(0, 0), 6);
+    refused_by_all(&[&[1u8][..], &file[1..]].concat(), 5);
+    // 3 and 4 are asked of this header too, before 6.
+    let changed = |reach: f32, steps: u32, more: usize| {
+        let file = ShipPlan { reach, steps, decks: vec![] }.file();
+        [&file[..], &vec![0u8; more]].concat()
+    };
+    for more in [0, 1] {
+        for reach in [f32::NAN, f32::INFINITY, -1.0, 1000.0625] {
+            refused_by_all(&changed(reach, 0, more), 3);
+        }
+        refused_by_all(&changed(0.5, 0, more), 4);
+        refused_by_all(&changed(0.5, 17, more), 4);
+    }
+    for (reach, steps) in [(0.0, 1), (-0.0, 16), (1000.0, 2)] {
+        assert_eq!(Ship::new(changed(reach, steps, 0)).check(), Ok(()));
+    }
 }
 
 #[test]

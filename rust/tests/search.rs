@@ -224,7 +224,7 @@ fn shown(r: &SeatRecord) -> Vec<u32> {
 
 /// A point anywhere, or on a vertex, where several polygons pass.
 fn point(random: &mut Random, plan: &ShipPlan) -> Point {
-    if random.below(3) == 0 {
+    if plan.decks.is_empty() || random.below(3) == 0 {
         return (random.float() + random.below(1 << 20) as f32 / (1 << 20) as f32, random.float());
     }
     let deck = &plan.decks[random.below(plan.decks.len() as u32) as usize];
@@ -263,7 +263,7 @@ fn every_search() {
         let mut seats = vec![];
         for _ in 0..8 {
             let (x, y) = point(&mut random, &plan);
-            let deck = if random.below(3) == 0 { Some(random.below(decks)) } else { None };
+            let deck = random.named_deck(decks);
             let wish = if random.below(2) == 0 { Some(random.float()) } else { None };
             seats.push(Seat { x, y, deck, wish });
 
@@ -317,7 +317,7 @@ fn every_search_towards() {
         for _ in 0..8 {
             let to = point(&mut random, &plan);
             let p = if random.below(2) == 0 { add(to, (random.float(), random.float())) } else { point(&mut random, &plan) };
-            let deck = if random.below(3) == 0 { Some(random.below(plan.decks.len() as u32)) } else { None };
+            let deck = random.named_deck(plan.decks.len() as u32);
             let (count, expected) = match search_towards(&plan, p, to, deck) {
                 None => (&mut refused, Err(Refusal(22))),
                 Some(None) => (&mut missing, Ok(None)),

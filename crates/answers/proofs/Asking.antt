@@ -2,8 +2,8 @@
 use Prim.Native.Nat.{ℕ, zero, suc, _+_, _-_, _*_, _/_, _≤_, _<_}
 use native.Mathlib.Omega.{arith}
 use native.Mathlib.Nat.{le-div-iff-mul-le, div-lt-iff-lt-mul, mul-comm}
-use mathlib.Core.Path.{_≡_, refl, sym, _∙_}
-use mathlib.Core.Bool.{Bool, true, false, not}
+use mathlib.Core.Path.{_≡_, refl, sym, ap₂, _∙_}
+use mathlib.Core.Bool.{Bool, true, false, not, or-false}
 use mathlib.Core.List.{List}
 use lib.Dec.{eqb, leb, ltb}
 use lib.ListN.{length}
@@ -50,6 +50,10 @@ pub both-passed : (first later : Check) → after first later ≡ Passed → (fi
 both-passed Passed later h = (refl, h)
 both-passed (No number) later h = (cc, cc)
 
+pub after-passed : (first : Check) → after first Passed ≡ first
+after-passed Passed = refl
+after-passed (No number) = refl
+
 -- ---- one check for each number
 module _ (check : ℕ → Check) where
   each-from : (n i : ℕ) → checkEach check i n ≡ Passed → (k : ℕ) → k < n → check (i + k) ≡ Passed
@@ -74,6 +78,12 @@ module _ (check : ℕ → Check) where
   passed-each n h = passed-from n 0 (λ k a b. h k (omega arith))
 
 -- the numbers below i passed, so the answer for all is the answer for those from i on
+-- two checks that say the same of each number
+pub each-same : (f g : ℕ → Check) → ((i : ℕ) → f i ≡ g i) → (n i : ℕ) → checkEach f i n ≡ checkEach g i n
+unfolding checkEach
+each-same f g h zero i = refl
+each-same f g h (suc n) i = ap₂ after (h i) (each-same f g h n (i + 1))
+
 pub record Checked (check : ℕ → Check) (n i : ℕ) : Type 0 where
   pub same : checkEach check 0 n ≡ checkEach check i (n - i)
 
@@ -119,6 +129,14 @@ module _ (decks : ℕ) {deck : ℕ} where
   named-deck n = simp (ne-eqb _ _ n)
 
 pub ruleset named = (any-deck, named-deck)
+
+-- with no deck, none may be named
+pub below-none : (k : ℕ) → ltb k 0 ≡ false
+below-none k = lt-leb (suc k) 0 (omega arith)
+
+pub none-there : (deck : ℕ) → question17 0 deck ≡ eqb deck allOnes
+unfolding question17
+none-there deck = rw (below-none deck) (or-false (eqb deck allOnes))
 
 -- ---- the decks that a search looks at
 module _ {deck : ℕ} (d : ℕ) where

@@ -23,7 +23,7 @@ use Rattle.ship.specs.Layout.{stepsIn}
 use Rattle.ship.specs.Decode.{decode}
 use Rattle.ship.specs.Packed.{packedOf}
 use Rattle.ship.specs.Questions.{firstNo}
-use Rattle.ship.proofs.Facts.{decks-range, steps-range}
+use Rattle.ship.proofs.Facts.{decks-few, steps-range}
 use Rattle.ship.proofs.ModelFacts.{decks-length}
 use Rattle.survey.specs.declared.Seat.{Seat}
 use Rattle.survey.specs.Wishes.{isBlocked}
@@ -65,7 +65,7 @@ module _ (file : List ℕ) (p : Vec2) (deck : ℕ) (blocked : List ℕ) {seat : 
       pub no-points : closestPoints file p deck blocked ≡ []
       unfolding closestPoints
       no-points =
-          nothing-found (seenBy file blocked (askedAt p deck)) (stepsIn file) record-is (omega (arith, decks-length file, decks-range file file-passed .1))
+          nothing-found (seenBy file blocked (askedAt p deck)) (stepsIn file) record-is (omega (arith, decks-length file, decks-few file file-passed))
           (polygons-few file file-passed p) (sym asked ∙ none)
 
       no-point : closestPoint file p deck blocked ≡ []

@@ -15,7 +15,7 @@ use Rattle.ship.specs.Layout.{decksIn, blocksAt}
 use Rattle.ship.specs.Model.{Deck, deckOf, polygonsBefore, polygonTotal}
 use Rattle.ship.specs.Decode.{decode}
 use Rattle.ship.specs.Questions.{firstNo, DeckOfPassed}
-use Rattle.ship.proofs.Facts.{sound, decks-range}
+use Rattle.ship.proofs.Facts.{sound, decks-few}
 use Rattle.ship.proofs.ModelFacts.{deck-of, decks-length, polygons-length}
 
 abbrev onDeck : List ℕ → ℕ → ℕ
@@ -39,7 +39,7 @@ module _ {file : List ℕ} {d total j : ℕ} (h : Totalled file d total j) where
 
   module _ {b : Blocks} (l : j < d) (there : d ≤ decksIn file) (deck : DeckOfPassed file b) where
     pub totalled-fits : firstNo file ≡ Passed → Fits w64 (total + b .polygons)
-    totalled-fits passed = record { fits = omega (arith, h .few, sound deck .few-polygons, decks-range file passed .1) }
+    totalled-fits passed = record { fits = omega (arith, h .few, sound deck .few-polygons, decks-few file passed) }
 
     pub totalled-more : b ≡ blocksAt file j → Totalled file d (total + b .polygons) (j + 1)
     totalled-more is =

@@ -18,7 +18,7 @@ use Rattle.ship.specs.Layout.{numberSize, decksIn}
 use Rattle.ship.specs.Model.{Ship, deckOf, polygonsBefore, polygonTotal}
 use Rattle.ship.specs.Packed.{packedDeck, packedPolygon}
 use Rattle.ship.specs.Decode.{decode}
-use Rattle.ship.proofs.Facts.{decks-range}
+use Rattle.ship.proofs.Facts.{decks-few}
 use Rattle.ship.proofs.ModelFacts.{decks-length}
 use Rattle.islands.specs.Islands.{polygonCount}
 use Rattle.loads.specs.Sheet.{shipLabels, islandPlace, sheetOf, polygonEntry, islandEntry, deckEntry, unplacedEntry, sheetLength}
@@ -148,7 +148,7 @@ module _ {file table work : List ℕ} {d k total : ℕ} (ready : PlacedReady fil
     island-in = omega (arith, ready .total-is)
 
   pub deck-fits : Fits w64 (2 * total + d)
-  deck-fits = record { fits = omega (arith, ready .total-few, placed-deck, decks-range file (ready .passed) .1) }
+  deck-fits = record { fits = omega (arith, ready .total-few, placed-deck, decks-few file (ready .passed)) }
 
   pub deck-in : 2 * total + d < sheetLength ship
   deck-in = omega (arith, ready .total-is, ready .deck-there)

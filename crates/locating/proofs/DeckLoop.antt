@@ -28,7 +28,7 @@ use Rattle.ship.specs.Layout.{decksIn}
 use Rattle.ship.specs.Decode.{decode}
 use Rattle.ship.specs.Packed.{packedOf}
 use Rattle.ship.specs.Questions.{firstNo}
-use Rattle.ship.proofs.Facts.{decks-range}
+use Rattle.ship.proofs.Facts.{decks-few}
 use Rattle.locating.specs.declared.Location.{Location}
 use Rattle.locating.specs.declared.Location.the-variants.{Found, Refused as Location·Refused}
 use Rattle.locating.specs.Locating.{locationOf, locationCode, packedHit, hitOn, pointLayer, pointLocation, pointCheck, layerReply}
@@ -52,7 +52,7 @@ layers-few file p deck passed =
       arith,
       length-collect (looksAt deck) (given file p) 0 (decksIn file),
       sum-bound (looksAt deck) (λ d. length (given file p d)) 1 (λ d. given-few d (hitOn (decode file) p d)) 0 (decksIn file),
-      decks-range file passed .1,
+      decks-few file passed,
     )
 
 -- a hit's polygon can be packed

@@ -1,8 +1,8 @@
 -- Document 01, section 7: the worked example, and a seat of kind 1 over two overlapping decks, as definitions evaluated on bytes.
 use Prim.Native.Nat.{ℕ}
 use mathlib.Core.Path.{_≡_, refl}
-use mathlib.Core.List.{List, [], _∷_}
-use lib.ListN.{replicate}
+use mathlib.Core.List.{List, [], _∷_, _++_}
+use lib.ListN.{take, replicate}
 use lib.Ieee.{ofInt, ofBits, div, add, sub, mul, lt, le, eq, round, sum, neg, units, odd, size, climb, span, ofFields, toBits}
 use Rattle.geometry.specs.Plane.{sideOf, inRange, inBoundingBox, onSegment}
 use Rattle.geometry.specs.Polygon.{edgeTestOf, edgesFrom, pointInPolygon}
@@ -11,7 +11,7 @@ use Rattle.ring.specs.Table.{directions}
 use Rattle.words.specs.Bytes.{u32At, bytes4, joined}
 use Rattle.words.specs.Rows.{rows, every, collect, sumOf}
 use Rattle.answers.specs.declared.Answer.the-variants.{Refused, Wrote}
-use Rattle.answers.specs.declared.Check.the-variants.{Passed}
+use Rattle.answers.specs.declared.Check.the-variants.{Passed, No}
 use Rattle.answers.specs.Checks.{checkEach}
 use Rattle.answers.specs.Questions.{question14, question17, question20}
 use Rattle.answers.specs.Replies.{replyCheck, answerTo}
@@ -76,6 +76,10 @@ naming =
     0 ∷ 0 ∷ 128 ∷ 63 ∷ 0 ∷ 0 ∷ 128 ∷ 63 ∷ 0 ∷ 0 ∷ 0 ∷ 0 ∷ 0 ∷ 0 ∷ 0 ∷ 0 ∷ 0 ∷ 0 ∷ 0 ∷ 0 ∷
     0 ∷ 0 ∷ 128 ∷ 63 ∷ 0 ∷ 0 ∷ 128 ∷ 63 ∷ 255 ∷ 255 ∷ 255 ∷ 255 ∷ 0 ∷ 0 ∷ 0 ∷ 0 ∷ 0 ∷ 0 ∷ 0 ∷ 0 ∷ []
 
+-- L 0, reach 0.5, S 2
+hull : List ℕ
+hull = 0 ∷ 0 ∷ 0 ∷ 0 ∷ 0 ∷ 0 ∷ 0 ∷ 63 ∷ 2 ∷ 0 ∷ 0 ∷ 0 ∷ []
+
 nothing-blocked : List ℕ
 nothing-blocked = replicate 32 0
 
@@ -120,3 +124,17 @@ blocked-comes-first = refl
 room : (answerTo (runReply file nothing-blocked seats) (replicate 108 0) ≡ Wrote 3) × (answerTo (runReply file nothing-blocked seats) (replicate 107 0) ≡ Refused 20)
 unfolding answerTo replyCheck question20 joined recordBytes bytes4 file seats nothing-blocked seatRun seatAt rows u32At blocksAt deckAt decode pointOf cornersOf heightOf polygonPoints polygonCorners isBlocked isOpen nearer polygonHit sampleHit collect sumOf turn triedBefore bestOf firstStep seatRecord choiceOf sampleOn placeOf shownFrom passesAt heightOn directions sideOf inRange inBoundingBox onSegment edgeTestOf edgesFrom pointInPolygon heightAlong sumFrom heightFrom meanHeight heightIn ofInt ofBits div add sub mul lt le eq round sum neg units odd size climb span ofFields toBits question14 question14Seats kindAllowed question16Seat question17 seatCheck runCheck checkEach endToEnd every question1 question2 question3 question4 question5 question6 question7 question8 question9 question10 question11 question12 question13 headerCheck blocksCheck deckCheck firstNo sizeAtMost reachAllowed
 room = (refl, refl)
+
+-- document 02, point 5: 12 bytes pass, 11 and 13 do not; no seat is placed, nothing is tried, and a deck that is named is not there
+hull-asked : (firstNo hull ≡ Passed) × ((firstNo (take 11 hull) ≡ No 1) × (firstNo (hull ++ 0 ∷ []) ≡ No 6))
+unfolding hull checkEach endToEnd question1 question2 question3 question4 question5 question6 headerCheck firstNo u32At sizeAtMost reachAllowed ofBits le
+hull-asked = (refl, (refl, refl))
+
+hull-run : (runCheck hull nothing-blocked seats ≡ Passed) × (runCheck hull nothing-blocked naming ≡ No 17)
+unfolding hull seats naming nothing-blocked question14 question14Seats kindAllowed question16Seat question17 seatCheck runCheck checkEach endToEnd question1 question2 question3 question4 question5 question6 headerCheck firstNo u32At sizeAtMost reachAllowed ofBits le
+hull-run = (refl, refl)
+
+hull-records : seatRun (decode hull) nothing-blocked (seatsOf seats)
+    ≡ numbers 0xFFFF_FFFF 0 0 0 0 0 0 0 0 ∷ numbers 0xFFFF_FFFF 0 0 0 0 0 0 0 0 ∷ numbers 0xFFFF_FFFF 0 0 0 0 0 0 0 0 ∷ []
+unfolding hull seats nothing-blocked seatRun seatAt rows u32At decode isBlocked isOpen collect sumOf triedBefore firstStep seatRecord choiceOf shownFrom ofBits
+hull-records = refl

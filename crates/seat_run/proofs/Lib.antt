@@ -4,5 +4,6 @@ pub mod SeatSurveys
 pub mod RunRecords
 pub mod SurveyTheorem
 pub mod BlockedTheorem
+pub mod NoDecksTheorem
 pub mod RunLoop
 pub mod Examples

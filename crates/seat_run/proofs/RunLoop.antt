@@ -32,6 +32,7 @@ use Rattle.seat_run.proofs.SeatAsks.{RunPassed, run-yes, run-blocked, s
 use Rattle.seat_run.proofs.RunRecords.{run-at, run-length, reply-long}
 use Rattle.seat_run.proofs.SurveyTheorem.{surveyed}
 use Rattle.seat_run.proofs.BlockedTheorem.{blocked-unplaced}
+use Rattle.seat_run.proofs.NoDecksTheorem.{no-decks-replied}
 
 -- ---- `put_seat`
 module _ {file blocked : List ℕ} {table : List ℤ} {seats out : List ℕ} {i : ℕ} (ready : RecordsReady file blocked table seats out) (h : i < seatCount seats) where
@@ -117,4 +118,4 @@ module _ (file blocked seats : List ℕ) {r : Check} (asked : r ≡ runCheck fil
     pub run-unsearched : {out′ : List ℕ} → RecordsPut file blocked seats out out′ → BlockedUnplaced file blocked seats (Wrote (seatCount seats)) out′
     run-unsearched w = blocked-unplaced file blocked seats out (run-replied w)
 
-pub ruleset running = (replied-refused, run-refused, run-ready, run-replied, run-surveyed, run-unsearched)
+pub ruleset running = (replied-refused, run-refused, run-ready, run-replied, run-surveyed, run-unsearched, no-decks-replied)

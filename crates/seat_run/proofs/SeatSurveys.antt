@@ -17,7 +17,7 @@ use Rattle.hits.specs.declared.Candidate.{Candidate}
 use Rattle.ship.specs.Layout.{decksIn}
 use Rattle.ship.specs.Decode.{decode}
 use Rattle.ship.specs.Questions.{firstNo}
-use Rattle.ship.proofs.Facts.{decks-range}
+use Rattle.ship.proofs.Facts.{decks-few}
 use Rattle.ship.proofs.ModelFacts.{decks-length, decode-steps}
 use Rattle.survey.specs.declared.Seat.{Seat}
 use Rattle.survey.specs.declared.Wish.{Wish}
@@ -81,7 +81,7 @@ module _ (file : List ℕ) (passed : firstNo file ≡ Passed) (blocked : List �
 
   pub seat-surveyed : SeatSurvey (seenBy file blocked seat) (decode file .steps) (seatRecord (seenBy file blocked seat) (decode file .steps))
   seat-surveyed =
-      survey-holds (seenBy file blocked seat) (omega (arith, decks-range file passed .1, decks-length file)) (polygons-few file passed (seat .place))
+      survey-holds (seenBy file blocked seat) (omega (arith, decks-few file passed, decks-length file)) (polygons-few file passed (seat .place))
       (decode file .steps) measured
 
   pub seat-once : (r r′ : SeatRecord) → SeatSurvey (seenBy file blocked seat) (decode file .steps) r → SeatSurvey (seenBy file blocked seat) (decode file .steps) r′ → r ≡ r′

@@ -2,3 +2,4 @@ pub mod SeatFile
 pub mod Run
 pub mod Survey
 pub mod Blocked
+pub mod NoDecks

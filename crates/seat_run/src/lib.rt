@@ -15,6 +15,7 @@ ghost use Rattle.seat_run.specs.SeatFile.{seatSize, seatWord, seatFloat,
 ghost use Rattle.seat_run.specs.Run.{recordOfSeat, runCheck, RunReplied, RecordsReady, RecordsPut};
 ghost use Rattle.seat_run.specs.Survey.{Surveyed};
 ghost use Rattle.seat_run.specs.Blocked.{BlockedUnplaced};
+ghost use Rattle.seat_run.specs.NoDecks.{NoDecksReplied};
 use answers::Answer;
 use answers::Check;
 use geometry::Vec2;
@@ -174,11 +175,14 @@ fn put_records(file: &[u8], blocked: &[u8], table: &[i32; 2432], seats: &[u8], o
 }
 
 // The seat run. The surveyor's statement holds of every run that is not refused, and a seat that names a blocked deck is not searched for.
+// On a hull with no decks yet no seat is placed.
 pub fn run(file: &[u8], blocked: &[u8], seats: &[u8], out: &mut [u8]) -> Answer
     ensures replied { λ r. ⌜ RunReplied (now (file .entry)) (now (blocked .entry)) (now (seats .entry))
         (now (out .entry)) (now (out .exit)) r ⌝ }
     ensures surveyed { λ r. ⌜ Surveyed (now (file .entry)) (now (blocked .entry)) (now (seats .entry)) r (now (out .exit)) ⌝ }
     ensures unsearched { λ r. ⌜ BlockedUnplaced (now (file .entry)) (now (blocked .entry)) (now (seats .entry)) r (now (out .exit)) ⌝ }
+    ensures no_decks { λ r. ⌜ NoDecksReplied (now (file .entry)) (now (blocked .entry)) (now (seats .entry))
+        (now (out .entry)) (now (out .exit)) r ⌝ }
 {
     match run_check(file, blocked, seats) {
         Check::No(number) => return Answer::Refused(number),

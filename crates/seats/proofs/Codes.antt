@@ -32,6 +32,7 @@ use Rattle.records.proofs.ReadBack.{records-length}
 use Rattle.seat_run.specs.Run.{runRecords, runReply}
 use Rattle.seat_run.proofs.SurveyTheorem.{surveyed-code}
 use Rattle.seat_run.proofs.BlockedTheorem.{blocked-unplaced-code}
+use Rattle.seat_run.proofs.NoDecksTheorem.{no-decks-code}
 use Rattle.loads.specs.Loads.{LoadsReplied, lentOf, SurveyedLoads, UnplacedLoads}
 use Rattle.loads.specs.Totals.{TotalledCode}
 use Rattle.loads.specs.Portions.{PortionedCode}
@@ -109,4 +110,4 @@ pub ruleset towards-codes = (towards-code, replied-code, snapped-code)
 
 pub ruleset loads-codes = (loads-code, tabled-code, loads-table, loads-work, surveyed-loads, unplaced-loads, totalled-loads, portioned-loads)
 
-pub ruleset run-codes = (run-code, replied-code, surveyed-code, blocked-unplaced-code)
+pub ruleset run-codes = (run-code, replied-code, surveyed-code, blocked-unplaced-code, no-decks-code)

@@ -13,12 +13,14 @@ ghost use Rattle.unstitched.specs.NewFile.{RemovalCode, RemovalSound};
 ghost use Rattle.seat_run.specs.Run.{RunCode};
 ghost use Rattle.seat_run.specs.Survey.{SurveyedCode};
 ghost use Rattle.seat_run.specs.Blocked.{BlockedUnplacedCode};
+ghost use Rattle.seat_run.specs.NoDecks.{NoDecksCode};
 ghost use Rattle.loads.specs.Loads.{LoadsCode, lentOf, SurveyedLoads, UnplacedLoads};
 ghost use Rattle.loads.specs.Totals.{TotalledCode};
 ghost use Rattle.loads.specs.Portions.{PortionedCode};
 use geometry::Vec2;
 
-// The surveyor's statement holds of every run that is not refused, and a seat that names a blocked deck is not searched for.
+// The surveyor's statement holds of every run that is not refused, and a seat that names a blocked deck is not searched for. On a hull with no
+// decks yet no seat is placed.
 #[no_mangle]
 pub extern "C" fn seats_run(file: &[u8], blocked: &[u8], seats: &[u8], out: &mut [u8]) -> i64
     ensures replied { λ r. ⌜ RunCode (now (file .entry)) (now (blocked .entry)) (now (seats .entry))
@@ -27,6 +29,8 @@ pub extern "C" fn seats_run(file: &[u8], blocked: &[u8], seats: &[u8], out: &mut
         (now (out .entry)) (now (out .exit)) ⌝ }
     ensures unsearched { λ _. ⌜ BlockedUnplacedCode (now (file .entry)) (now (blocked .entry)) (now (seats .entry))
         (now (out .entry)) (now (out .exit)) ⌝ }
+    ensures no_decks { λ r. ⌜ NoDecksCode (now (file .entry)) (now (blocked .entry)) (now (seats .entry))
+        (now (out .entry)) (now (out .exit)) r ⌝ }
 {
     answers::code(seat_run::run(file, blocked, seats, out))
 }

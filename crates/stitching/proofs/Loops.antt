@@ -16,7 +16,7 @@ use Rattle.ship.specs.Layout.{decksIn, blocksAt}
 use Rattle.ship.specs.Model.{pointOf, deckOf}
 use Rattle.ship.specs.Decode.{deckAt, decode}
 use Rattle.ship.specs.Questions.{firstNo, DeckOfPassed}
-use Rattle.ship.proofs.Facts.{decks-range}
+use Rattle.ship.proofs.Facts.{decks-few}
 use Rattle.ship.proofs.ModelFacts.{vertices-length, point-within, decks-length, deck-of}
 use Rattle.stitching.specs.Points.{StitchPoint, samePoint, stitchesAt, stitchesBetween, stitchesFrom, stitchPoints}
 use Rattle.stitching.specs.Walk.{stitchPoint, stitchesOn, PointReady, StitchesPut}
@@ -87,7 +87,7 @@ module _ (file : List ℕ) (a b : ℕ) {at : Blocks} (is : at ≡ blocksAt file 
 pub point-ready : (file : List ℕ) (i : ℕ) {a b : ℕ} {at : Blocks} {p : Vec2} → DeckOfPassed file at → firstNo file ≡ Passed → a < decksIn file → b < decksIn file
     → p ≡ pointOf (deckAt file at) i → PointReady a b p
 point-ready file i deck passed a-there b-there vertex =
-    let few = decks-range file passed .1 in
+    let few = decks-few file passed in
     record { a-small = omega arith; b-small = omega arith; within = rw vertex (point-within deck i) }
 
 pub ruleset between = (between-start, between-turn, point-ready, loop-end, putting-long)

@@ -28,7 +28,7 @@ use Rattle.ship.specs.Model.{Ship, deckOf}
 use Rattle.ship.specs.Decode.{deckAt, decode}
 use Rattle.ship.specs.Packed.{packedOf}
 use Rattle.ship.specs.Questions.{DeckOfPassed}
-use Rattle.ship.proofs.Facts.{decks-range}
+use Rattle.ship.proofs.Facts.{decks-few}
 use Rattle.ship.proofs.ModelFacts.{offset-within, decode-reach}
 use Rattle.search.specs.OnDeck.{nextHit}
 use Rattle.walking.proofs.ShownLaws.{deck-is}
@@ -109,7 +109,7 @@ module _ (file : List ℕ) (p direction : Vec2) {c : Place} (ready : PlaceReady 
   ready-turn = ready .turn-ready
 
   pub ready-packed : (c .deck < 256) × (c .polygon < 2 ^ 24)
-  ready-packed = (omega (arith, ready .turn-ready .turn .deck, decks-range file (ready .turn-ready .file-passed) .1), ready .polygon)
+  ready-packed = (omega (arith, ready .turn-ready .turn .deck, decks-few file (ready .turn-ready .file-passed)), ready .polygon)
 
   -- no sample and no place is a NaN or infinite
   pub ready-point : {point : Vec2} → point ≡ pointTowards (decode file) p direction (c .step) (c .deck) → PointWithin 3030000 point

@@ -26,7 +26,7 @@ use Rattle.ship.specs.Layout.{decksIn, blocksAt}
 use Rattle.ship.specs.Model.{Deck, noDeck, deckOf}
 use Rattle.ship.specs.Decode.{deckAt, decode}
 use Rattle.ship.specs.Questions.{firstNo, DeckOfPassed}
-use Rattle.ship.proofs.Facts.{sound, decks-range}
+use Rattle.ship.proofs.Facts.{sound, decks-few}
 use Rattle.ship.proofs.ModelFacts.{polygons-length, offset-within, decks-length, deck-of, decode-reach}
 use Rattle.survey.specs.declared.Seat.{Seat}
 use Rattle.survey.specs.Search.{turn, candidates, triedIn}
@@ -121,7 +121,7 @@ module _ {file : List ℕ} {c : Candidate} (passed : firstNo file ≡ Passed) (o
   candidate-within =
       record {
         step = on .turn .step;
-        deck = omega (arith, on .turn .deck, decks-range file passed .1);
+        deck = omega (arith, on .turn .deck, decks-few file passed);
         sample = omega (arith, on .turn .step, on .sample);
         polygon = omega (arith, on .polygon, sound deck .few-polygons);
         place-within = place-small;
@@ -131,7 +131,7 @@ module _ {file : List ℕ} {c : Candidate} (passed : firstNo file ≡ Passed) (o
 -- ---- the numbers of a step: at most 256 decks of at most 151 samples, and at most 16,777,215 polygons a deck
 module _ (file blocked : List ℕ) (seat : Seat) (s : ℕ) (passed : firstNo file ≡ Passed) where
   few-decks : seenBy file blocked seat .decks ≤ 256
-  few-decks = omega (arith, decks-length file, decks-range file passed .1)
+  few-decks = omega (arith, decks-length file, decks-few file passed)
 
   pub few-tried : s < 16 → triedIn (seenBy file blocked seat) s ≤ 38656
   few-tried l =

@@ -16,7 +16,7 @@ use Rattle.hits.specs.Candidates.{candidate}
 use Rattle.hits.specs.Hits.{triedOf}
 use Rattle.ship.specs.Layout.{decksIn}
 use Rattle.ship.specs.Questions.{firstNo}
-use Rattle.ship.proofs.Facts.{decks-range}
+use Rattle.ship.proofs.Facts.{decks-few}
 use Rattle.ship.proofs.ModelFacts.{decks-length}
 use Rattle.survey.specs.declared.Seat.{Seat}
 use Rattle.survey.specs.Wishes.{isOpen}
@@ -160,6 +160,6 @@ pub next-deck : {file : List ℕ} {c : Candidate} → CandidateIn file c → c .
 next-deck on = omega (arith, on .turn .deck)
 
 pub deck-fits : {file : List ℕ} {c : Candidate} → firstNo file ≡ Passed → CandidateIn file c → Fits w64 (c .deck + 1)
-deck-fits {file} passed on = record { fits = omega (arith, on .turn .deck, decks-range file passed .1) }
+deck-fits {file} passed on = record { fits = omega (arith, on .turn .deck, decks-few file passed) }
 
 pub ruleset afters = (after-missed, after-hit, next-deck, deck-fits)

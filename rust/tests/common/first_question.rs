@@ -1,4 +1,4 @@
-//! Questions 1 to 13, written from document 01.
+//! Questions 1 to 13, written from document 01 and from document 02, point 5.
 
 /// The k-th number of bytes.
 pub fn number(bytes: &[u8], k: usize) -> u32 {
@@ -58,7 +58,7 @@ pub fn first_question(file: &[u8]) -> Option<u32> {
         return Some(1);
     }
     let decks = number(file, 0) as usize;
-    if !(1..=256).contains(&decks) {
+    if decks > 256 {
         return Some(2);
     }
     let reach = f32::from_bits(number(file, 1));
@@ -81,6 +81,7 @@ pub fn first_question(file: &[u8]) -> Option<u32> {
         blocks.push(&file[at..at + length]);
         at += length;
     }
+    // With no decks, this is the header's end.
     if at != file.len() {
         return Some(6);
     }

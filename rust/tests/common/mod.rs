@@ -28,6 +28,11 @@ pub fn example() -> ShipPlan {
     ShipPlan { reach: 0.5, steps: 2, decks: vec![square()] }
 }
 
+/// The same with no decks yet.
+pub fn no_decks() -> ShipPlan {
+    ShipPlan { decks: vec![], ..example() }
+}
+
 /// A deck of squares that lie on each other, each with four vertices of its own, whose lists are `lists` of the square.
 pub fn stacked(lists: &[&[u32]]) -> DeckPlan {
     let vertices = lists.iter().flat_map(|list| SQUARE.iter().map(|&(x, y)| VertexPlan { x, y, neighbours: list.to_vec() })).collect();
@@ -140,9 +145,19 @@ impl Random {
         DeckPlan { offset: (self.float(), self.float()), vertices, polygons, heights }
     }
 
-    /// A plan whose file passes every question.
+    /// One of this many decks, or none named.
+    pub fn named_deck(&mut self, decks: u32) -> Option<u32> {
+        if decks > 0 && self.below(3) == 0 {
+            Some(self.below(decks))
+        } else {
+            None
+        }
+    }
+
+    /// A plan whose file passes every question, now and then one with no decks.
     pub fn plan(&mut self) -> ShipPlan {
-        let decks = (0..1 + self.below(4)).map(|_| self.deck()).collect();
+        let count = if self.below(16) == 0 { 0 } else { 1 + self.below(4) };
+        let decks = (0..count).map(|_| self.deck()).collect();
         ShipPlan { reach: self.below(33) as f32 / 16.0, steps: 1 + self.below(16), decks }
     }
 }

@@ -11,7 +11,7 @@ enum-known-number : tie.Need-enum-known-number
 enum-known-number c = search (running, needs)
 
 returns : tie.Need-returns
-returns c = search (running, needs)
+returns c = (search (running, needs), (tt, (tt, search (running, needs))))
 
 enum-told : tie.Need-enum-told
 enum-told c = search (running, needs)
@@ -20,7 +20,7 @@ room-for-requires : tie.Need-room-for-requires
 room-for-requires c κs = search (running, needs)
 
 returns-2 : tie.Need-returns-2
-returns-2 c = search (running, needs)
+returns-2 c = (search (running, needs), (tt, (tt, search (running, needs))))
 
 all-directions-requires : tie.Need-all-directions-requires
 all-directions-requires c κs = search (running, needs)
@@ -32,7 +32,7 @@ same-length : tie.Need-same-length
 same-length c = search (running, needs)
 
 returns-3 : tie.Need-returns-3
-returns-3 c = (search (running, needs), (search (running, needs), search (running, needs)))
+returns-3 c = (search (running, needs), (search (running, needs), (search (running, needs), search (running, needs))))
 
 pub run-spec : {M : Type 1} → statement M
 run-spec =

@@ -14,7 +14,7 @@ same-length : tie.Need-same-length
 same-length c = search (run-codes, needs)
 
 returns : tie.Need-returns
-returns c = (search (run-codes, needs), (search (run-codes, needs), search (run-codes, needs)))
+returns c = (search (run-codes, needs), (search (run-codes, needs), (search (run-codes, needs), search (run-codes, needs))))
 
 pub seats-run-spec : {M : Type 1} → statement M
 seats-run-spec = tie.close (tie.spec run-requires code-requires same-length returns)
