@@ -77,13 +77,13 @@ module _ (check : ℕ → Check) where
   pub passed-each : (n : ℕ) → ((k : ℕ) → k < n → check k ≡ Passed) → checkEach check 0 n ≡ Passed
   passed-each n h = passed-from n 0 (λ k a b. h k (omega arith))
 
--- the numbers below i passed, so the answer for all is the answer for those from i on
 -- two checks that say the same of each number
 pub each-same : (f g : ℕ → Check) → ((i : ℕ) → f i ≡ g i) → (n i : ℕ) → checkEach f i n ≡ checkEach g i n
 unfolding checkEach
 each-same f g h zero i = refl
 each-same f g h (suc n) i = ap₂ after (h i) (each-same f g h n (i + 1))
 
+-- the numbers below i passed, so the answer for all is the answer for those from i on
 pub record Checked (check : ℕ → Check) (n i : ℕ) : Type 0 where
   pub same : checkEach check 0 n ≡ checkEach check i (n - i)
 
@@ -130,10 +130,10 @@ module _ (decks : ℕ) {deck : ℕ} where
 
 pub ruleset named = (any-deck, named-deck)
 
--- with no deck, none may be named
 pub below-none : (k : ℕ) → ltb k 0 ≡ false
 below-none k = lt-leb (suc k) 0 (omega arith)
 
+-- with no deck, none may be named
 pub none-there : (deck : ℕ) → question17 0 deck ≡ eqb deck allOnes
 unfolding question17
 none-there deck = rw (below-none deck) (or-false (eqb deck allOnes))

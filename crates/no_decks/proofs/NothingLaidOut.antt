@@ -5,7 +5,6 @@ use mathlib.Core.Path.{_≡_, refl, ap, _∙_}
 use mathlib.Core.Bool.{Bool, true, false, _||_, cond}
 use mathlib.Core.List.{List, [], _∷_, append-nil}
 use lib.Dec.{eqb}
-use lib.ListN.{length}
 use lib.Seq.{take-all}
 use Rattle.geometry.specs.declared.Vec2.{Vec2}
 use Rattle.geometry.specs.declared.Height.the-variants.{None}
@@ -22,7 +21,7 @@ use Rattle.ship.specs.Model.{polygonsBefore}
 use Rattle.ship.specs.Decode.{decode}
 use Rattle.ship.specs.Packed.{packedDeck}
 use Rattle.ship.specs.Questions.{firstNo}
-use Rattle.ship.proofs.NoDecks.{header-long, no-decks}
+use Rattle.ship.proofs.NoDecks.{header-long, no-decks, no-deck-below}
 use Rattle.survey.specs.Search.{foundIn}
 use Rattle.survey.proofs.NoneOpen.{found-nowhere}
 use Rattle.search.specs.OnDeck.{heightOn}
@@ -70,8 +69,7 @@ module _ (file : List ℕ) (none : decksIn file ≡ 0) (passed : firstNo file �
   found-none : (p : Vec2) (deck : ℕ) (blocked : List ℕ) → closestPoints file p deck blocked ≡ []
   unfolding closestPoints
   found-none p deck blocked =
-      let bare : length (decode file .decks) ≡ 0 = rw (no-decks file none) in
-      ap foundIn (found-nowhere (seenBy file blocked (askedAt p deck)) (λ d l. absurd (omega arith)) 0 (stepsIn file))
+      ap foundIn (found-nowhere (seenBy file blocked (askedAt p deck)) (λ d l. absurd (no-deck-below file none l)) 0 (stepsIn file))
 
   query-asked : (p : Vec2) (deck : ℕ) (blocked : List ℕ) → queryCheck file p deck blocked ≡ asked p blocked (namesNone deck Passed)
   unfolding queryCheck
@@ -93,7 +91,7 @@ module _ (file : List ℕ) (none : decksIn file ≡ 0) (passed : firstNo file �
   towards-asked p towards deck = rw (passed, none, none-there deck)
 
   -- ---- the height
-  height-asked : (p : Vec2) (polygon : ℕ) → heightCheck file p polygon ≡ ask (question16 p) 16 (ask (eqb polygon allOnes) 17 Passed)
+  height-asked : (p : Vec2) (polygon : ℕ) → heightCheck file p polygon ≡ ask (question16 p) 16 (namesNone polygon Passed)
   unfolding heightCheck question17Height question18
   height-asked p polygon = rw (passed, none, below-none (packedDeck polygon), asked-17 (eqb polygon allOnes) _)
 

@@ -1,10 +1,8 @@
 -- The theorem of bytes on a hull with no decks: a run's reply there is `noDecksReply`.
 use Prim.Native.Nat.{ℕ, zero, suc, _+_}
-use native.Mathlib.Omega.{arith}
 use mathlib.Core.Path.{_≡_, refl, ap, ap₂, subst, _∙_}
 use mathlib.Core.List.{List, _++_}
 use lib.IntN.{ℤ}
-use lib.ListN.{length}
 use Rattle.words.specs.Bytes.{joined}
 use Rattle.words.specs.Rows.{rows, collect, collectAll}
 use Rattle.answers.specs.declared.Answer.{Answer}
@@ -16,7 +14,7 @@ use Rattle.records.specs.Record.{recordBytes, recordsBytes, unplacedRecord, unt
 use Rattle.records.proofs.ReadBack.{untried}
 use Rattle.ship.specs.Layout.{decksIn}
 use Rattle.ship.specs.Decode.{decode}
-use Rattle.ship.proofs.NoDecks.{no-decks-asked, no-decks}
+use Rattle.ship.proofs.NoDecks.{no-decks-asked, no-deck-below}
 use Rattle.survey.proofs.NoneOpen.{nothing-tried}
 use Rattle.walking.specs.Sees.{view}
 use Rattle.seat_run.specs.SeatFile.{deckWord, seatAt, seatCount, seatCheck}
@@ -40,11 +38,9 @@ module _ (file blocked seats : List ℕ) (none : decksIn file ≡ 0) where
 
   -- no deck is open, since none is there
   pub seat-untried : (i : ℕ) → recordOfSeat (decode file) blocked seats i ≡ unplacedRecord 0
-  seat-untried i =
-      let bare : length (decode file .decks) ≡ 0 = rw (no-decks file none) in
-      nothing-tried (view (decode file) blocked (seatAt seats i)) (λ d l. absurd (omega arith)) (decode file .steps)
+  seat-untried i = nothing-tried (view (decode file) blocked (seatAt seats i)) (λ d l. absurd (no-deck-below file none l)) (decode file .steps)
 
-  pub no-decks-bytes : recordsBytes (runRecords file blocked seats) ≡ collectAll (λ i. untriedBytes) 0 (seatCount seats)
+  no-decks-bytes : recordsBytes (runRecords file blocked seats) ≡ collectAll (λ i. untriedBytes) 0 (seatCount seats)
   no-decks-bytes = rw (run-rows (decode file) blocked seats) (untried-rows (recordOfSeat (decode file) blocked seats) seat-untried (seatCount seats) 0)
 
   pub no-decks-reply : runReply file blocked seats ≡ noDecksReply file blocked seats

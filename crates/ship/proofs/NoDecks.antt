@@ -1,5 +1,6 @@
 -- A file with L 0: what it is asked, and that its model has no deck.
-use Prim.Native.Nat.{ℕ}
+use Prim.Native.Nat.{ℕ, _<_}
+use native.Mathlib.Omega.{arith}
 use mathlib.Core.Path.{_≡_, refl, sym, _∙_}
 use mathlib.Core.Bool.{Bool, true, false}
 use mathlib.Core.List.{List, []}
@@ -36,3 +37,6 @@ module _ (s : List ℕ) (none : decksIn s ≡ 0) where
   pub no-decks : decode s .decks ≡ []
   unfolding decode rows
   no-decks = rw none
+
+  pub no-deck-below : {d : ℕ} → d < length (decode s .decks) → ⊥
+  no-deck-below l = let bare : length (decode s .decks) ≡ 0 = rw no-decks in omega arith
