@@ -1,111 +1,109 @@
-//! Both sides measured in one run: seats a second, and the ratio.
-use std::collections::HashSet;
-use std::hint::black_box;
+//! Both sides measured in one run, and an older library beside them.
 use std::time::Instant;
 
-use feedercoil::{raw, seat_list, Seat, ShipPlan};
-
-use crate::by_rust::RustShip;
 use crate::calls::Call;
-use crate::glam::vec2;
-use crate::random::Random;
-use crate::ships::grid;
+use crate::shapes::{Shape, Table, BLOCK, TABLES};
+use crate::sides::{Library, Older, Polyanya, Side};
 
-/// Decks of squares that overlap in part.
-pub struct Shape {
-    pub decks: u32,
-    pub wide: u32,
-    pub high: u32,
-    pub steps: u32,
-    seats: u32,
+/// A run and a turn, in seconds: a turn repeats a run.
+const RUN: f64 = 0.1;
+const TURN: f64 = 0.4;
+
+/// The best of so many turns counts, or of as many as are done in so many seconds.
+const TURNS: u32 = 4;
+const ENOUGH: f64 = 10.0;
+
+/// How many seats a side was measured on, and the seconds a seat.
+struct Measured {
+    seats: usize,
+    a_seat: f64,
 }
 
-impl Shape {
-    pub fn ship(&self) -> ShipPlan {
-        let deck = |d: u32| {
-            let mut deck = grid(self.wide, self.high, 1.0);
-            deck.offset = (10.0 * d as f32, 5.0 * d as f32);
-            deck.vertices.iter_mut().for_each(|v| v.neighbours = vec![u32::MAX]);
-            deck.heights = deck.vertices.iter().map(|v| v.x / 4.0).collect();
-            deck
-        };
-        ShipPlan { reach: 0.5, steps: self.steps, decks: (0..self.decks).map(deck).collect() }
-    }
+/// A list's first seats, as many as a run has time for, since a slow side would take minutes for all. Whole blocks, so that every side
+/// has the same share of the seats that take long.
+fn fitting(side: &mut dyn Side, most: usize) -> Measured {
+    let blocks = (RUN / side.turn(BLOCK, RUN)) as usize;
+    Measured { seats: (blocks.max(1) * BLOCK).min(most), a_seat: f64::MAX }
+}
 
-    /// A third of the seats on a deck, a third up to a few steps off, a third nowhere near, in turn.
-    pub fn seats(&self) -> Vec<Seat> {
-        let random = &mut Random(0xB0A7);
-        let along = |random: &mut Random, n: u32| random.below(10 * n) as f32 / 10.0;
-        let seat = |k: u32| match k % 3 {
-            0 => Seat::at(along(random, self.wide), along(random, self.high)),
-            1 => Seat::at(along(random, self.wide), -1.0 - random.below(15) as f32 / 10.0),
-            _ => Seat::at(5000.0 + random.below(100) as f32, 5000.0),
-        };
-        (0..self.seats).map(seat).collect()
-    }
-
-    /// Measures both sides in turn, and prints a line.
-    fn measure(&self) {
-        let plan = self.ship();
-        let seats = self.seats();
-        let (file, list) = (plan.file(), seat_list(&seats));
-        let mut rust = RustShip::new(plan);
-        let mut out = vec![0; 36 * seats.len()];
-        let nothing = HashSet::new();
-        let (mut best_here, mut best_rust) = (f64::MAX, f64::MAX);
-        let begin = Instant::now();
-        for _ in 0..RUNS {
-            let start = Instant::now();
-            assert_eq!(raw::run(&file, &[0; 32], &list, &mut out), Ok(seats.len()));
-            best_here = best_here.min(start.elapsed().as_secs_f64());
-            let start = Instant::now();
-            for seat in &seats {
-                black_box(rust.mesh.get_closest_points_on_layers(vec2(seat.x, seat.y), nothing.clone()));
-            }
-            best_rust = best_rust.min(start.elapsed().as_secs_f64());
-            if begin.elapsed().as_secs_f64() > ENOUGH {
-                break;
-            }
+fn in_turn(sides: &mut [&mut dyn Side], most: usize) -> Vec<Measured> {
+    let begin = Instant::now();
+    let mut measured: Vec<_> = sides.iter_mut().map(|side| fitting(*side, most)).collect();
+    for _ in 0..TURNS {
+        for (side, of) in sides.iter_mut().zip(&mut measured) {
+            of.a_seat = of.a_seat.min(side.turn(of.seats, TURN) / of.seats as f64);
         }
-        // The records are the Rust's, of as many seats as can be checked in a moment.
-        let few = seats.len().min(6);
-        assert_eq!(out[..36 * few], rust.answer(&Call::Run { seats: list[..20 * few].to_vec() }, &[0; 32]));
-        let placed = out.chunks(36).filter(|record| record[..4] != [255; 4]).count();
-        let a_second = |time: f64| seats.len() as f64 / time;
-        println!(
-            "{:>5} {:>9} {:>3} {:>6} {:>7} {:>12.0} {:>12.0} {:>6.2}",
-            self.decks,
-            self.wide * self.high,
-            self.steps,
-            self.seats,
-            placed,
-            a_second(best_here),
-            a_second(best_rust),
-            best_rust / best_here
-        );
+        if begin.elapsed().as_secs_f64() > ENOUGH {
+            break;
+        }
+    }
+    measured
+}
+
+/// The records are the Rust's, of as many seats as can be checked in a moment.
+fn check_records(here: &Library, rust: &mut Polyanya) {
+    let few = 6;
+    assert_eq!(here.out[..36 * few], rust.ship.answer(&Call::Run { seats: here.list[..20 * few].to_vec() }, &[0; 32]));
+}
+
+impl Table {
+    fn print_heading(&self, older: bool) {
+        let unit = if self.micros { "us a seat" } else { "seats a s" };
+        println!("\n{}; {}", self.title, if self.micros { "microseconds a seat" } else { "seats a second" });
+        print!("decks  polygons   S  reach            seats    of  placed  here, {unit}    of  Rust, {unit}   ratio");
+        println!("{}", if older { format!("    of  before, {unit}  after/before") } else { String::new() });
+    }
+
+    fn shown(&self, a_seat: f64) -> String {
+        let value = if self.micros { 1e6 * a_seat } else { 1.0 / a_seat };
+        if value < 100.0 {
+            format!("{value:.1}")
+        } else {
+            format!("{value:.0}")
+        }
+    }
+
+    /// Measures the sides in turn, and prints a line.
+    fn measure(&self, number: usize, shape: &Shape, program: Option<&str>) {
+        let (mut here, mut rust) = (Library::new(shape), Polyanya::new(shape));
+        let mut older = program.map(|program| Older { program, shape: number });
+        let mut sides: Vec<&mut dyn Side> = vec![&mut here, &mut rust];
+        sides.extend(older.as_mut().map(|older| older as &mut dyn Side));
+        let measured = in_turn(&mut sides, shape.seats);
+        check_records(&here, &mut rust);
+        self.print_line(shape, &here, &measured);
+    }
+
+    fn print_line(&self, shape: &Shape, library: &Library, measured: &[Measured]) {
+        let (here, rust) = (&measured[0], &measured[1]);
+        let placed = library.out.chunks(36).take(here.seats).filter(|record| record[..4] != [255; 4]).count();
+        print!("{:>5} {:>9} {:>3} {:>6} {:>16}", shape.decks, shape.polygons(), shape.steps, shape.reach, shape.kind_name());
+        print!(" {:>5} {placed:>7} {:>15}", here.seats, self.shown(here.a_seat));
+        print!(" {:>5} {:>15} {:>7.2}", rust.seats, self.shown(rust.a_seat), rust.a_seat / here.a_seat);
+        if let Some(before) = measured.get(2) {
+            print!(" {:>5} {:>17} {:>13.2}", before.seats, self.shown(before.a_seat), before.a_seat / here.a_seat);
+        }
+        println!();
     }
 }
 
-/// The best of so many runs counts, or of as many as are done in so many seconds.
-const RUNS: u32 = 7;
-const ENOUGH: f64 = 6.0;
-
-fn table(title: &str, shapes: &[Shape]) {
-    println!("{title}\ndecks  polygons   S  seats  placed  here, per s  Rust, per s  ratio");
-    shapes.iter().for_each(Shape::measure);
+/// Polygons are of each deck. The program is this one with an older library.
+pub fn run(program: Option<&str>) {
+    println!(
+        "'of': the first seats of the list, as many as that side can do in {RUN} s, in blocks of {BLOCK} with each kind equally often"
+    );
+    let mut number = 0;
+    for table in &TABLES {
+        table.print_heading(program.is_some());
+        for shape in table.shapes {
+            table.measure(number, shape, program);
+            number += 1;
+        }
+    }
 }
 
-pub const SHIPS: [Shape; 3] = [
-    Shape { decks: 1, wide: 10, high: 5, steps: 8, seats: 3000 },
-    Shape { decks: 4, wide: 50, high: 30, steps: 8, seats: 300 },
-    Shape { decks: 16, wide: 100, high: 50, steps: 8, seats: 12 },
-];
-
-/// Polygons are of each deck. The Rust is unbaked, and gives its candidates; the library its records.
-pub fn run() {
-    table("three ships", &SHIPS);
-    let grow = |wide, high, steps, seats| Shape { decks: 1, wide, high, steps, seats };
-    table("more polygons", &[grow(10, 10, 8, 300), grow(50, 20, 8, 300), grow(100, 100, 8, 60), grow(500, 200, 8, 9)]);
-    table("more seats", &[grow(50, 20, 8, 30), grow(50, 20, 8, 300), grow(50, 20, 8, 3000)]);
-    table("more steps", &[grow(50, 20, 1, 300), grow(50, 20, 2, 300), grow(50, 20, 4, 300), grow(50, 20, 8, 300), grow(50, 20, 16, 300)]);
+/// What the program with the older library is asked for: a turn, of a shape by its number.
+pub fn turn(number: usize, seats: usize, time: f64) {
+    let shape = TABLES.iter().flat_map(|table| table.shapes).nth(number).expect("a shape's number");
+    println!("{}", Library::new(shape).turn(seats, time));
 }

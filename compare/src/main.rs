@@ -21,7 +21,9 @@ mod random;
 mod rings;
 mod rounds;
 mod seen;
+mod shapes;
 mod ships;
+mod sides;
 mod stored;
 mod ways;
 
@@ -55,24 +57,30 @@ use polyanya::primitives::{Polygon, Vertex};
 const FULL_CALLS: u64 = 1_000_000;
 
 fn main() {
-    let number = |k: usize| std::env::args().nth(k).map(|word| word.parse().expect("a number"));
-    match std::env::args().nth(1).as_deref() {
+    let word = |k: usize| std::env::args().nth(k);
+    let number = |k: usize| word(k).map(|word| word.parse().expect("a number"));
+    match word(1).as_deref() {
         Some("check") => compare_all(rounds::GATE_CALLS, rounds::SEED),
         Some("full") => {
             compare_all(number(2).unwrap_or(FULL_CALLS), number(3).unwrap_or(rounds::SEED));
             rust_refuses_too_many();
         }
         Some("answers") => answers::write(),
-        Some("bench") => bench::run(),
+        Some("bench") => bench::run(word(2).as_deref()),
+        // What the benchmark asks of the program with an older library.
+        Some("turn") => {
+            let seconds = word(4).and_then(|word| word.parse().ok());
+            bench::turn(number(2).expect("a shape") as usize, number(3).expect("seats") as usize, seconds.expect("seconds"));
+        }
         Some("instructions") => instructions::run(),
         // What the instructions are counted of.
-        Some("once") => instructions::once(number(2).expect("a ship") as usize, std::env::args().nth(3).as_deref() == Some("far")),
+        Some("once") => instructions::once(number(2).expect("a ship") as usize, &word(3).expect("a list")),
         #[cfg(feature = "mistakes")]
         Some("mistakes") if mistakes::all_show() => println!("compare: each mistake shows"),
         #[cfg(feature = "mistakes")]
         Some("mistakes") => fail("a mistake does not show, or there are differences without one"),
         _ => {
-            eprintln!("usage: compare check|full [CALLS [SEED]]|mistakes|answers|bench|instructions");
+            eprintln!("usage: compare check|full [CALLS [SEED]]|mistakes|answers|bench [OLD]|instructions");
             exit(2);
         }
     }

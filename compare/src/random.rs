@@ -24,6 +24,10 @@ impl Random {
         list[self.index(list.len())]
     }
 
+    pub fn shuffle<T>(&mut self, list: &mut [T]) {
+        (1..list.len()).rev().for_each(|k| list.swap(k, self.index(k + 1)));
+    }
+
     pub fn sign(&mut self) -> f32 {
         self.one_of(&[-1.0, 1.0])
     }
