@@ -78,8 +78,8 @@ module _ (file : List ℕ) (p : Vec2) (deck : ℕ) (blocked : List ℕ) {seat : 
       pub point-none : {out : List ℕ} → Replied (closestPointReply file p deck blocked) out out (Wrote 0)
       point-none = replied-none _ _ said passed no-point
 
-    pub step-below : u ≡ false → found .step < 16
-    step-below some = omega (arith, recorded (seenBy file blocked (askedAt p deck)) (stepsIn file) record-is (sym asked ∙ some) .below, steps-range file file-passed .1)
+    pub step-below : u ≡ false → found .step < stepsIn file
+    step-below some = recorded (seenBy file blocked (askedAt p deck)) (stepsIn file) record-is (sym asked ∙ some) .below
 
   module _ (some : u ≡ false) where
     step-found : Recorded (seenBy file blocked (askedAt p deck)) (stepsIn file) found

@@ -51,9 +51,9 @@ pub record Putting (file blocked : List ℕ) (seat : Seat) (s : ℕ) (out₀ out
   pub room : StepFits (seenBy file blocked seat) s out₀
   pub rest : Rest (candidateBytes (shownBy file (seat .place))) entrySize nowhere out₀ 0 (candidates (seenBy file blocked seat) s) out n
 
-pub putting-all : {file blocked : List ℕ} {table : List ℤ} {seat : Seat} {s : ℕ} {out : List ℕ} {next : Next} → PutReady file blocked table seat s out
+pub putting-all : {file blocked : List ℕ} {table : List ℤ} {seat : Seat} {s : ℕ} {out array : List ℕ} {next : Next} → PutReady file blocked table seat s out array
     → WalkedStep file (seenBy file blocked seat) s next → Putting file blocked seat s out out 0 next
-putting-all ready w = record { passes = passing-all (ready .search-ready) w; room = ready .fits; rest = rest-all }
+putting-all ready w = record { passes = passing-all (ready .walk-ready) w; room = ready .fits; rest = rest-all }
 
 module _ {file blocked : List ℕ} {seat : Seat} {s : ℕ} {out₀ out : List ℕ} {n : ℕ} {next : Next} (h : Putting file blocked seat s out₀ out n next) where
   pub putting-long : length out ≡ length out₀

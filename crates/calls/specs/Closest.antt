@@ -24,7 +24,8 @@ use Rattle.survey.specs.declared.Wish.the-variants.{NoWish}
 use Rattle.survey.specs.Wishes.{choiceOf}
 use Rattle.survey.specs.View.{Shown, View}
 use Rattle.survey.specs.Search.{candidates, firstStep, foundIn}
-use Rattle.walking.specs.Sees.{shownBy, seenBy, SearchReady}
+use Rattle.walking.specs.Sees.{shownBy, seenBy}
+use Rattle.walking.specs.Lists.{WalkReady}
 
 abbrev pub pointOfParts : Float → Float → Vec2
 pointOfParts x y = record { x = x; y = y }
@@ -95,14 +96,14 @@ abbrev pub stepReply : View → ℕ → Reply
 stepReply v s = replyOf Passed (candidateBytes (v .shown)) (candidates v s)
 
 -- what a function that writes a step needs of the room, or of the count
-pub record PutReady (file blocked : List ℕ) (table : List ℤ) (seat : Seat) (s : ℕ) (out : List ℕ) : Type 0 where
-  pub search-ready : SearchReady file blocked table seat
-  pub step-below : s < 16
+pub record PutReady (file blocked : List ℕ) (table : List ℤ) (seat : Seat) (s : ℕ) (out array : List ℕ) : Type 0 where
+  pub walk-ready : WalkReady file blocked table seat array
+  pub step-below : s < stepsIn file
   pub fits : StepFits (seenBy file blocked seat) s out
 
-pub record CountReady (file blocked : List ℕ) (table : List ℤ) (seat : Seat) (s count : ℕ) : Type 0 where
-  pub search-ready : SearchReady file blocked table seat
-  pub step-below : s < 16
+pub record CountReady (file blocked : List ℕ) (table : List ℤ) (seat : Seat) (s count : ℕ) (array : List ℕ) : Type 0 where
+  pub walk-ready : WalkReady file blocked table seat array
+  pub step-below : s < stepsIn file
   pub counts : StepCount (seenBy file blocked seat) s count
 
 abbrev pub StepReplied : List ℕ → List ℕ → Seat → ℕ → List ℕ → List ℕ → Answer → Type 0

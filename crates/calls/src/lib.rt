@@ -14,6 +14,8 @@ use answers::Answer;
 use answers::Check;
 use geometry::Height;
 use geometry::Vec2;
+use keeping::KEPT_SIZE;
+use keeping::NEAR_SIZE;
 use survey::Seat;
 use survey::Wish;
 use walking::Next;
@@ -74,12 +76,21 @@ pub fn put_candidate(out: &mut [u8], n: usize, polygon: u32, place: Vec2)
 }
 
 // The candidates of step s, written from the first byte on.
-fn put_step(file: &[u8], blocked: &[u8], table: &[i32; 2432], seat: Seat, s: usize, out: &mut [u8])
-    requires { ⌜ PutReady (now file) (now blocked) (now table) seat s (now out) ⌝ }
+fn put_step(
+    file: &[u8],
+    blocked: &[u8],
+    table: &[i32; 2432],
+    seat: Seat,
+    s: usize,
+    out: &mut [u8],
+    kept: &[u32],
+)
+    requires { ⌜ PutReady (now file) (now blocked) (now table) seat s (now out) (now kept) ⌝ }
     ensures { λ _. ⌜ StepPut (seenBy (now (file .entry)) (now (blocked .entry)) seat) s (now (out .entry)) (now (out .exit)) ⌝ }
 {
+    let mut near = [0u32; NEAR_SIZE];
     let mut n: usize = 0;
-    let mut next = walking::first(file, blocked, table, seat, s);
+    let mut next = walking::first(file, blocked, table, seat, s, kept, &mut near);
     'candidates: loop {
         match next {
             Next::Ended(_) => return,
@@ -87,7 +98,7 @@ fn put_step(file: &[u8], blocked: &[u8], table: &[i32; 2432], seat: Seat, s: usi
                 let place = walking::place_of(file, table, seat.place, c);
                 put_candidate(out, n, decks::packed(c.deck, c.polygon), place);
                 n += 1;
-                next = walking::after(file, blocked, table, seat, c);
+                next = walking::after(file, blocked, table, seat, c, kept, &mut near);
             }
         }
     }
@@ -102,14 +113,15 @@ fn put_counted(
     s: usize,
     count: usize,
     out: &mut [u8],
+    kept: &[u32],
 ) -> Answer
-    requires { ⌜ CountReady (now file) (now blocked) (now table) seat s count ⌝ }
+    requires { ⌜ CountReady (now file) (now blocked) (now table) seat s count (now kept) ⌝ }
     ensures { λ r. ⌜ StepReplied (now (file .entry)) (now (blocked .entry)) seat s (now (out .entry)) (now (out .exit)) r ⌝ }
 {
     if !answers::room_for(ENTRY_SIZE, count, out.len()) {
         return Answer::Refused(20);
     }
-    put_step(file, blocked, table, seat, s, out);
+    put_step(file, blocked, table, seat, s, out, kept);
     Answer::Wrote(count)
 }
 
@@ -128,8 +140,10 @@ pub fn get_closest_points_on_layers(
         Check::Passed => {}
     }
     let table = ring::all_directions();
+    let mut kept = [0u32; KEPT_SIZE];
+    let mut near = [0u32; NEAR_SIZE];
     let seat = asked_at(p, deck);
-    let found = placing::place_seat(file, blocked, &table, seat);
+    let found = placing::place_seat(file, blocked, &table, seat, &mut kept, &mut near);
     if records::unplaced(found) {
         return Answer::Wrote(0);
     }
@@ -142,6 +156,7 @@ pub fn get_closest_points_on_layers(
         step,
         found.candidates as usize,
         out,
+        &kept,
     )
 }
 
@@ -160,7 +175,16 @@ pub fn get_closest_point_on_layers(
         Check::Passed => {}
     }
     let table = ring::all_directions();
-    let found = placing::place_seat(file, blocked, &table, asked_at(p, deck));
+    let mut kept = [0u32; KEPT_SIZE];
+    let mut near = [0u32; NEAR_SIZE];
+    let found = placing::place_seat(
+        file,
+        blocked,
+        &table,
+        asked_at(p, deck),
+        &mut kept,
+        &mut near,
+    );
     if records::unplaced(found) {
         return Answer::Wrote(0);
     }

@@ -63,7 +63,7 @@ pub ruleset named = (none-written, named-short, named-room, named-written)
 
 -- ---- `put_staying`
 module _ {file blocked : List ℕ} {seat : Seat} {s : ℕ} {work work₁ : List ℕ} {stay : ℕ} (m : NumbersMerged file blocked seat s work work₁ stay)
-    {count : ℕ} {table : List ℤ} (f : ListFits file blocked table seat s count work) where
+    {count : ℕ} {table : List ℤ} {array : List ℕ} (f : ListFits file blocked table seat s count work array) where
   pub staying-inside : numberSize * stay ≤ length work₁
   staying-inside = omega (arith, f .fits, f .counted .counts, m .count, m .long, merged-few (touches (decode file)) (stepNumbers file blocked seat s))
 

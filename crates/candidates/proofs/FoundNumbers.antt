@@ -21,6 +21,7 @@ use Rattle.ship.specs.Decode.{decode}
 use Rattle.survey.specs.declared.Seat.{Seat}
 use Rattle.survey.specs.Search.{seatRecord, candidates}
 use Rattle.walking.specs.Sees.{seenBy, SearchReady}
+use Rattle.walking.specs.Lists.{Sifted}
 use Rattle.calls.specs.Closest.{askedAt, closestPoints}
 use Rattle.calls.proofs.Queries.{query-ready}
 use Rattle.calls.proofs.ClosestCalls.{no-points, points-are, points-count, step-below}
@@ -51,14 +52,18 @@ module _ {file : List ℕ} {p : Vec2} {deck : ℕ} {blocked work : List ℕ} (re
       unfolding stepNumbers
       numbers-are = ap (map packedCandidate) (points-are file p deck blocked is placed asked some)
 
-      pub found-fits : {table : List ℤ} → table ≡ directions → ListFits file blocked table seat (found .step) (found .candidates) work
+      pub found-fits : {table : List ℤ} {array : List ℕ} → table ≡ directions → Sifted file (seat .place) array
+          → ListFits file blocked table seat (found .step) (found .candidates) work array
       unfolding stepNumbers
-      found-fits t =
+      found-fits t sifted =
           let n : found .candidates ≡ length (stepNumbers file blocked seat (found .step))
           = points-count file p deck blocked is placed asked some ∙ sym (numbers-length file blocked seat (found .step)) in
           record {
             counted = record {
-              ready = record { search-ready = found-ready t; step-below = step-below file p deck blocked is placed asked refl (ready .passed) some };
+              ready = record {
+                walk-ready = record { search-ready = found-ready t; sifted = sifted };
+                step-below = step-below file p deck blocked is placed asked refl (ready .passed) some;
+              };
               counts = n;
             };
             fits = omega (arith, n, numbers-few file blocked seat (found .step), ready .wide);

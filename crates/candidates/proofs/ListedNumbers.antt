@@ -38,10 +38,11 @@ module _ (list xs : List ℕ) {list′ : List ℕ} (put : list′ ≡ splice lis
       getD-rows (numberAt list′) (length xs) 0 k 0 b ∙ rw e (number-back k b))
 
 -- ---- `merge_numbers`
-pub list-fits : {file blocked : List ℕ} {table : List ℤ} {seat : Seat} {s count : ℕ} {list : List ℕ} → ListFits file blocked table seat s count list → NumbersFit file blocked table seat s list
+pub list-fits : {file blocked : List ℕ} {table : List ℤ} {seat : Seat} {s count : ℕ} {list array : List ℕ} → ListFits file blocked table seat s count list array
+    → NumbersFit file blocked table seat s list array
 list-fits f = record { ready = f .counted .ready; fits = omega (arith, f .fits, f .counted .counts) }
 
-module _ {file blocked : List ℕ} {table : List ℤ} {seat : Seat} {s count : ℕ} {list list′ : List ℕ} (f : ListFits file blocked table seat s count list)
+module _ {file blocked : List ℕ} {table : List ℤ} {seat : Seat} {s count : ℕ} {list list′ array : List ℕ} (f : ListFits file blocked table seat s count list array)
     (put : list′ ≡ splice list 0 (wordsOf (stepNumbers file blocked seat s))) where
   listed-long : length list′ ≡ length list
   listed-long =
@@ -49,7 +50,7 @@ module _ {file blocked : List ℕ} {table : List ℤ} {seat : Seat} {s count : �
 
   pub listed-ready : ListReady file list′ count
   listed-ready =
-      let passed = f .counted .ready .search-ready .file-ready .file-passed in
+      let passed = f .counted .ready .walk-ready .search-ready .file-ready .file-passed in
       let n = f .counted .counts in
       let back = number-back list (stepNumbers file blocked seat s) put in
       record {
@@ -67,8 +68,8 @@ module _ {file blocked : List ℕ} {table : List ℤ} {seat : Seat} {s count : �
 pub ruleset listed = (list-fits, listed-ready, listed-merged)
 
 -- ---- `count_staying`
-pub own-fits : {file blocked : List ℕ} {table : List ℤ} {seat : Seat} {s count : ℕ} {list : List ℕ} → StepCounted file blocked table seat s count
-    → count ≤ 16384 → length list ≡ 65536 → ListFits file blocked table seat s count list
+pub own-fits : {file blocked : List ℕ} {table : List ℤ} {seat : Seat} {s count : ℕ} {list array : List ℕ} → StepCounted file blocked table seat s count array
+    → count ≤ 16384 → length list ≡ 65536 → ListFits file blocked table seat s count list array
 own-fits c few long = record { counted = c; fits = omega (arith, long) }
 
 pub ruleset own-list = (own-fits)

@@ -23,8 +23,8 @@ abbrev pub NumbersWorked : List ℕ → List ℕ → List ℕ → List ℕ → L
 NumbersWorked polygons out out′ work work′ r = Worked (replyOf Passed bytes4 polygons) 0 out out′ work work′ r
 
 -- a list that the numbers of step s fit in
-pub record ListFits (file blocked : List ℕ) (table : List ℤ) (seat : Seat) (s count : ℕ) (list : List ℕ) : Type 0 where
-  pub counted : StepCounted file blocked table seat s count
+pub record ListFits (file blocked : List ℕ) (table : List ℤ) (seat : Seat) (s count : ℕ) (list array : List ℕ) : Type 0 where
+  pub counted : StepCounted file blocked table seat s count array
   pub fits : numberSize * count ≤ length list
 
 -- those of them that stay stand first in it

@@ -11,6 +11,8 @@ ghost use Rattle.candidates.specs.Written.{NumbersWorked, ListFits, Numb
 use answers::Answer;
 use answers::Check;
 use geometry::Vec2;
+use keeping::KEPT_SIZE;
+use keeping::NEAR_SIZE;
 use ship::NUMBER_SIZE;
 use survey::Seat;
 
@@ -65,11 +67,12 @@ fn merge_numbers(
     s: usize,
     count: usize,
     list: &mut [u8],
+    kept: &[u32],
 ) -> usize
-    requires { ⌜ ListFits (now file) (now blocked) (now table) seat s count (now list) ⌝ }
+    requires { ⌜ ListFits (now file) (now blocked) (now table) seat s count (now list) (now kept) ⌝ }
     ensures { λ r. ⌜ NumbersMerged (now (file .entry)) (now (blocked .entry)) seat s (now (list .entry)) (now (list .exit)) r ⌝ }
 {
-    numbering::put_numbers(file, blocked, table, seat, s, list);
+    numbering::put_numbers(file, blocked, table, seat, s, list, kept);
     merging::merge_touching_readings(file, list, count)
 }
 
@@ -81,15 +84,16 @@ fn count_staying(
     seat: Seat,
     s: usize,
     count: usize,
+    kept: &[u32],
 ) -> usize
-    requires { ⌜ StepCounted (now file) (now blocked) (now table) seat s count ⌝ }
+    requires { ⌜ StepCounted (now file) (now blocked) (now table) seat s count (now kept) ⌝ }
     ensures { λ r. ⌜ r ≡ length (stepMerged (now (file .entry)) (now (blocked .entry)) seat s) ⌝ }
 {
     if count > OWN_NUMBERS {
-        return numbering::count_by_midpoints(file, blocked, table, seat, s, count);
+        return numbering::count_by_midpoints(file, blocked, table, seat, s, count, kept);
     }
     let mut own = [0u8; OWN_BYTES];
-    merge_numbers(file, blocked, table, seat, s, count, &mut own)
+    merge_numbers(file, blocked, table, seat, s, count, &mut own, kept)
 }
 
 // Question 20 of those that stay. Where all have room it needs no count of them.
@@ -101,14 +105,15 @@ fn staying_fit(
     s: usize,
     count: usize,
     room: usize,
+    kept: &[u32],
 ) -> bool
-    requires { ⌜ StepCounted (now file) (now blocked) (now table) seat s count ⌝ }
+    requires { ⌜ StepCounted (now file) (now blocked) (now table) seat s count (now kept) ⌝ }
     ensures { λ r. ⌜ r ≡ question20 (numberSize * length (stepMerged (now (file .entry)) (now (blocked .entry)) seat s)) room ⌝ }
 {
     if answers::room_for(NUMBER_SIZE, count, room) {
         return true;
     }
-    let stay = count_staying(file, blocked, table, seat, s, count);
+    let stay = count_staying(file, blocked, table, seat, s, count, kept);
     answers::room_for(NUMBER_SIZE, stay, room)
 }
 
@@ -122,15 +127,16 @@ fn put_staying(
     count: usize,
     out: &mut [u8],
     work: &mut [u8],
+    kept: &[u32],
 ) -> Answer
-    requires { ⌜ ListFits (now file) (now blocked) (now table) seat s count (now work) ⌝ }
+    requires { ⌜ ListFits (now file) (now blocked) (now table) seat s count (now work) (now kept) ⌝ }
     ensures { λ r. ⌜ NumbersWorked (stepMerged (now (file .entry)) (now (blocked .entry)) seat s) (now (out .entry)) (now (out .exit))
         (now (work .entry)) (now (work .exit)) r ⌝ }
 {
-    if !staying_fit(file, blocked, table, seat, s, count, out.len()) {
+    if !staying_fit(file, blocked, table, seat, s, count, out.len(), kept) {
         return Answer::Refused(20);
     }
-    let stay = merge_numbers(file, blocked, table, seat, s, count, work);
+    let stay = merge_numbers(file, blocked, table, seat, s, count, work, kept);
     words::put_front(work, NUMBER_SIZE * stay, out);
     words::clear(work);
     Answer::Wrote(stay)
@@ -150,8 +156,10 @@ fn put_found(
         (now (work .entry)) (now (work .exit)) r ⌝ }
 {
     let table = ring::all_directions();
+    let mut kept = [0u32; KEPT_SIZE];
+    let mut near = [0u32; NEAR_SIZE];
     let seat = calls::asked_at(p, deck);
-    let found = placing::place_seat(file, blocked, &table, seat);
+    let found = placing::place_seat(file, blocked, &table, seat, &mut kept, &mut near);
     if records::unplaced(found) {
         return put_none(out, work);
     }
@@ -165,6 +173,7 @@ fn put_found(
         found.candidates as usize,
         out,
         work,
+        &kept,
     )
 }
 

@@ -5,6 +5,7 @@ ghost use lib.ListN.{length};
 ghost use Rattle.words.specs.Bytes.{countAt};
 ghost use Rattle.answers.specs.declared.Check.the-variants.{Passed};
 ghost use Rattle.ship.specs.Decode.{decode};
+ghost use Rattle.keeping.specs.Lists.{ListsRoom};
 ghost use Rattle.ship.specs.Questions.{firstNo};
 ghost use Rattle.seat_run.specs.Survey.{Surveyed};
 ghost use Rattle.seat_run.specs.Blocked.{BlockedUnplaced};
@@ -17,6 +18,8 @@ ghost use Rattle.loads.specs.Counting.{oneMore, ThreeReady, countedAt, P
 ghost use Rattle.loads.specs.Counting.{CountsReady, CountsPut, SheetReady, SheetPut, roomsFit, TableReady, TablePut};
 use answers::Answer;
 use answers::Check;
+use keeping::KEPT_SIZE;
+use keeping::NEAR_SIZE;
 use records::RECORD_SIZE;
 use seat_run::SEAT_SIZE;
 use ship::NUMBER_SIZE;
@@ -132,8 +135,11 @@ fn put_counts(
     out: &mut [u8],
     table: &mut [u8],
     work: &[u8],
+    kept: &mut [u32],
+    near: &mut [u32],
 )
-    requires { ⌜ CountsReady (now file) (now blocked) (now directions) (now seats) (now out) (now table) (now work) ⌝ }
+    requires { ⌜ CountsReady (now file) (now blocked) (now directions) (now seats) (now out) (now table) (now work)
+        × ListsRoom (now kept) ⌝ }
     ensures { λ _. ⌜ CountsPut (now (file .entry)) (now (blocked .entry)) (now (seats .entry))
         (now (out .entry)) (now (out .exit)) (now (table .exit)) ⌝ }
 {
@@ -143,7 +149,7 @@ fn put_counts(
     'seats: while i < count {
         let seat = i;
         i += 1;
-        let record = seat_run::put_seat(file, blocked, directions, seats, seat, out);
+        let record = seat_run::put_seat(file, blocked, directions, seats, seat, out, kept, near);
         count_seat(file, record.polygon, total, table, work);
     }
 }
@@ -163,7 +169,19 @@ fn put_sheet(
 {
     put_labels(file, table, work);
     let directions = ring::all_directions();
-    put_counts(file, blocked, &directions, seats, out, table, work);
+    let mut kept = [0u32; KEPT_SIZE];
+    let mut near = [0u32; NEAR_SIZE];
+    put_counts(
+        file,
+        blocked,
+        &directions,
+        seats,
+        out,
+        table,
+        work,
+        &mut kept,
+        &mut near,
+    );
     words::clear(work);
 }
 

@@ -49,10 +49,10 @@ pub record Tried (file blocked : List ℕ) (seat : Seat) (s k a b m : ℕ) : Typ
 pub tried-all : {file blocked : List ℕ} {seat : Seat} {s k a b : ℕ} → Tried file blocked seat s k a b 0
 tried-all = record { sought = sought-all }
 
-module _ {file blocked : List ℕ} {table : List ℤ} {seat : Seat} {s count a b : ℕ} (ready : ReachReady file blocked table seat s count a b) where
+module _ {file blocked : List ℕ} {table : List ℤ} {seat : Seat} {s count a b : ℕ} {array : List ℕ} (ready : ReachReady file blocked table seat s count a b array) where
   pub reach-touch : TouchReady file a
   reach-touch =
-      let passed = ready .counted .ready .search-ready .file-ready .file-passed in
+      let passed = ready .counted .ready .walk-ready .search-ready .file-ready .file-passed in
       record { passed = passed; there = numbers-there file blocked seat s a passed (ready .start) }
 
   pub reach-same : (k : ℕ) → a ≡ b → true ≡ stepReach file blocked seat s (2 ^ k) a b
@@ -65,10 +65,10 @@ module _ {file blocked : List ℕ} {table : List ℤ} {seat : Seat} {s count a b
     midpoint : T (has (stepNumbers file blocked seat s) c)
     midpoint = rw is (has-at (stepNumbers file blocked seat s) m (omega (arith, ready .counted .counts)))
 
-    pub reach-first : ReachReady file blocked table seat s count a c
+    pub reach-first : ReachReady file blocked table seat s count a c array
     reach-first = record { counted = ready .counted; start = ready .start; end = midpoint }
 
-    pub reach-second : ReachReady file blocked table seat s count c b
+    pub reach-second : ReachReady file blocked table seat s count c b array
     reach-second = record { counted = ready .counted; start = midpoint; end = ready .end }
 
   -- by halves
@@ -112,13 +112,13 @@ pub record Unreached (file blocked : List ℕ) (seat : Seat) (s j i : ℕ) : Typ
 pub unreached-all : {file blocked : List ℕ} {seat : Seat} {s j : ℕ} → Unreached file blocked seat s j 0
 unreached-all = record { sought = sought-all }
 
-module _ {file blocked : List ℕ} {table : List ℤ} {seat : Seat} {s count k j b : ℕ} (ready : DropReady file blocked table seat s count k j)
+module _ {file blocked : List ℕ} {table : List ℤ} {seat : Seat} {s count k j b : ℕ} {array : List ℕ} (ready : DropReady file blocked table seat s count k j array)
     (to : b ≡ getD (stepNumbers file blocked seat s) j 0) where
   of-step : (i : ℕ) → i ≤ j → T (has (stepNumbers file blocked seat s) (getD (stepNumbers file blocked seat s) i 0))
   of-step i h = has-at (stepNumbers file blocked seat s) i (omega (arith, ready .below, ready .counted .counts))
 
   module _ {i a : ℕ} (h : i < j) (from : a ≡ getD (stepNumbers file blocked seat s) i 0) where
-    pub drop-reach : ReachReady file blocked table seat s count a b
+    pub drop-reach : ReachReady file blocked table seat s count a b array
     drop-reach = record { counted = ready .counted; start = rw from (of-step i (omega arith)); end = rw to (of-step j (omega arith)) }
 
     module _ (t : Unreached file blocked seat s j i) {r : Bool} (asked : r ≡ stepReach file blocked seat s (2 ^ k) a b) where

@@ -51,9 +51,9 @@ pub record Putting (file blocked : List ℕ) (seat : Seat) (s : ℕ) (list₀ li
   pub room : numberSize * length (stepNumbers file blocked seat s) ≤ length list₀
   pub rest : Rest bytes4 numberSize 0 list₀ 0 (stepNumbers file blocked seat s) list n
 
-pub putting-all : {file blocked : List ℕ} {table : List ℤ} {seat : Seat} {s : ℕ} {list : List ℕ} {next : Next} → NumbersFit file blocked table seat s list
+pub putting-all : {file blocked : List ℕ} {table : List ℤ} {seat : Seat} {s : ℕ} {list array : List ℕ} {next : Next} → NumbersFit file blocked table seat s list array
     → WalkedStep file (seenBy file blocked seat) s next → Putting file blocked seat s list list 0 next
-putting-all fit w = record { passes = passing-all (fit .ready .search-ready) w; room = fit .fits; rest = rest-all }
+putting-all fit w = record { passes = passing-all (fit .ready .walk-ready) w; room = fit .fits; rest = rest-all }
 
 module _ {file blocked : List ℕ} {seat : Seat} {s : ℕ} {list₀ list : List ℕ} {n : ℕ} {next : Next} (h : Putting file blocked seat s list₀ list n next) where
   pub putting-long : length list ≡ length list₀
@@ -93,4 +93,8 @@ module _ {file blocked : List ℕ} {seat : Seat} {s j n : ℕ} {next : Next} (h 
       → number ≡ getD (stepNumbers file blocked seat s) j 0
   seeking-here e packed same = rw (← same) (number-here (h .passes) e packed)
 
-pub ruleset seeking = (passing, seeking-ended, seeking-here)
+  pub seeking-more : {c : Candidate} {m : ℕ} {next′ : Next} → next ≡ Reached c m → (n ≡ j → ⊥) → WalkedAfter file (seenBy file blocked seat) c next′
+      → Seeking file blocked seat s j (n + 1) next′
+  seeking-more e other w = record { passes = passing-more (h .passes) e w; before = omega (arith, h .before, other) }
+
+pub ruleset seeking = (passing, seeking-ended, seeking-here, seeking-more)

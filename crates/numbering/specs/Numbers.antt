@@ -8,14 +8,15 @@ use lib.IntN.{ℤ}
 use lib.ListN.{length}
 use Rattle.words.specs.Rows.{has}
 use Rattle.hits.specs.declared.Candidate.{Candidate}
-use Rattle.ship.specs.Layout.{numberSize}
+use Rattle.ship.specs.Layout.{numberSize, stepsIn}
 use Rattle.ship.specs.Decode.{decode}
 use Rattle.ship.specs.Packed.{packedOf}
 use Rattle.survey.specs.declared.Seat.{Seat}
 use Rattle.survey.specs.Search.{candidates}
 use Rattle.touching.specs.Touching.{touches}
 use Rattle.touching.specs.Reach.{within, drops, merged}
-use Rattle.walking.specs.Sees.{seenBy, SearchReady}
+use Rattle.walking.specs.Sees.{seenBy}
+use Rattle.walking.specs.Lists.{WalkReady}
 
 abbrev pub packedCandidate : Candidate → ℕ
 packedCandidate c = packedOf (c .deck) (c .polygon)
@@ -35,28 +36,28 @@ abbrev pub stepMerged : List ℕ → List ℕ → Seat → ℕ → List ℕ
 stepMerged file blocked seat s = merged (touches (decode file)) (stepNumbers file blocked seat s)
 
 -- ---- what the functions of a step need
-pub record StepReady (file blocked : List ℕ) (table : List ℤ) (seat : Seat) (s : ℕ) : Type 0 where
-  pub search-ready : SearchReady file blocked table seat
-  pub step-below : s < 16
+pub record StepReady (file blocked : List ℕ) (table : List ℤ) (seat : Seat) (s : ℕ) (array : List ℕ) : Type 0 where
+  pub walk-ready : WalkReady file blocked table seat array
+  pub step-below : s < stepsIn file
 
 -- room for them
-pub record NumbersFit (file blocked : List ℕ) (table : List ℤ) (seat : Seat) (s : ℕ) (list : List ℕ) : Type 0 where
-  pub ready : StepReady file blocked table seat s
+pub record NumbersFit (file blocked : List ℕ) (table : List ℤ) (seat : Seat) (s : ℕ) (list array : List ℕ) : Type 0 where
+  pub ready : StepReady file blocked table seat s array
   pub fits : numberSize * length (stepNumbers file blocked seat s) ≤ length list
 
 -- how many they are
-pub record StepCounted (file blocked : List ℕ) (table : List ℤ) (seat : Seat) (s count : ℕ) : Type 0 where
-  pub ready : StepReady file blocked table seat s
+pub record StepCounted (file blocked : List ℕ) (table : List ℤ) (seat : Seat) (s count : ℕ) (array : List ℕ) : Type 0 where
+  pub ready : StepReady file blocked table seat s array
   pub counts : count ≡ length (stepNumbers file blocked seat s)
 
 -- two of them
-pub record ReachReady (file blocked : List ℕ) (table : List ℤ) (seat : Seat) (s count a b : ℕ) : Type 0 where
-  pub counted : StepCounted file blocked table seat s count
+pub record ReachReady (file blocked : List ℕ) (table : List ℤ) (seat : Seat) (s count a b : ℕ) (array : List ℕ) : Type 0 where
+  pub counted : StepCounted file blocked table seat s count array
   pub start : T (has (stepNumbers file blocked seat s) a)
   pub end : T (has (stepNumbers file blocked seat s) b)
 
 -- number j, and 2^k hops, which are as many as they are
-pub record DropReady (file blocked : List ℕ) (table : List ℤ) (seat : Seat) (s count k j : ℕ) : Type 0 where
-  pub counted : StepCounted file blocked table seat s count
+pub record DropReady (file blocked : List ℕ) (table : List ℤ) (seat : Seat) (s count k j : ℕ) (array : List ℕ) : Type 0 where
+  pub counted : StepCounted file blocked table seat s count array
   pub enough : count ≤ 2 ^ k
   pub below : j < count

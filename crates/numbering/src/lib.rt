@@ -5,6 +5,7 @@ ghost use Prim.Native.Nat.{_^_, _≤_, _<_};
 ghost use lib.ListN.{length, getD};
 ghost use Rattle.words.specs.Bytes.{splice, wordsOf};
 ghost use Rattle.numbering.specs.Numbers.{stepNumbers, stepReach, stepDrops, stepMerged, StepReady, NumbersFit, StepCounted, ReachReady, DropReady};
+use keeping::NEAR_SIZE;
 use ship::NUMBER_SIZE;
 use survey::Seat;
 use walking::Next;
@@ -17,20 +18,22 @@ pub fn put_numbers(
     seat: Seat,
     s: usize,
     list: &mut [u8],
+    kept: &[u32],
 )
-    requires { ⌜ NumbersFit (now file) (now blocked) (now table) seat s (now list) ⌝ }
+    requires { ⌜ NumbersFit (now file) (now blocked) (now table) seat s (now list) (now kept) ⌝ }
     ensures { λ _. ⌜ now (list .exit) ≡ splice (now (list .entry)) 0
         (wordsOf (stepNumbers (now (file .entry)) (now (blocked .entry)) seat s)) ⌝ }
 {
+    let mut near = [0u32; NEAR_SIZE];
     let mut n: usize = 0;
-    let mut next = walking::first(file, blocked, table, seat, s);
+    let mut next = walking::first(file, blocked, table, seat, s, kept, &mut near);
     'candidates: loop {
         match next {
             Next::Ended(_) => return,
             Next::Reached(c, _) => {
                 words::put_u32(list, NUMBER_SIZE * n, decks::packed(c.deck, c.polygon));
                 n += 1;
-                next = walking::after(file, blocked, table, seat, c);
+                next = walking::after(file, blocked, table, seat, c, kept, &mut near);
             }
         }
     }
@@ -44,12 +47,14 @@ fn number_at(
     seat: Seat,
     s: usize,
     j: usize,
+    kept: &[u32],
 ) -> u32
-    requires { ⌜ StepReady (now file) (now blocked) (now table) seat s ⌝ }
+    requires { ⌜ StepReady (now file) (now blocked) (now table) seat s (now kept) ⌝ }
     ensures { λ r. ⌜ r ≡ getD (stepNumbers (now (file .entry)) (now (blocked .entry)) seat s) j 0 ⌝ }
 {
+    let mut near = [0u32; NEAR_SIZE];
     let mut n: usize = 0;
-    let mut next = walking::first(file, blocked, table, seat, s);
+    let mut next = walking::first(file, blocked, table, seat, s, kept, &mut near);
     'candidates: loop {
         match next {
             Next::Ended(_) => return 0,
@@ -58,7 +63,7 @@ fn number_at(
                     return decks::packed(c.deck, c.polygon);
                 }
                 n += 1;
-                next = walking::after(file, blocked, table, seat, c);
+                next = walking::after(file, blocked, table, seat, c, kept, &mut near);
             }
         }
     }
@@ -88,8 +93,9 @@ fn reach_within(
     k: usize,
     a: u32,
     b: u32,
+    kept: &[u32],
 ) -> bool
-    requires { ⌜ ReachReady (now file) (now blocked) (now table) seat s count a b ⌝ }
+    requires { ⌜ ReachReady (now file) (now blocked) (now table) seat s count a b (now kept) ⌝ }
     ensures { λ r. ⌜ r ≡ stepReach (now (file .entry)) (now (blocked .entry)) seat s (2 ^ k) a b ⌝ }
 {
     if a == b {
@@ -102,9 +108,9 @@ fn reach_within(
     'midpoints: while m < count {
         let at = m;
         m += 1;
-        let c = number_at(file, blocked, table, seat, s, at);
-        if reach_within(file, blocked, table, seat, s, count, k - 1, a, c) {
-            if reach_within(file, blocked, table, seat, s, count, k - 1, c, b) {
+        let c = number_at(file, blocked, table, seat, s, at, kept);
+        if reach_within(file, blocked, table, seat, s, count, k - 1, a, c, kept) {
+            if reach_within(file, blocked, table, seat, s, count, k - 1, c, b, kept) {
                 return true;
             }
         }
@@ -122,16 +128,17 @@ fn drops_out(
     count: usize,
     k: usize,
     j: usize,
+    kept: &[u32],
 ) -> bool
-    requires { ⌜ DropReady (now file) (now blocked) (now table) seat s count k j ⌝ }
+    requires { ⌜ DropReady (now file) (now blocked) (now table) seat s count k j (now kept) ⌝ }
     ensures { λ r. ⌜ r ≡ stepDrops (now (file .entry)) (now (blocked .entry)) seat s j ⌝ }
 {
-    let b = number_at(file, blocked, table, seat, s, j);
+    let b = number_at(file, blocked, table, seat, s, j, kept);
     let mut i: usize = 0;
     'earlier: while i < j {
-        let a = number_at(file, blocked, table, seat, s, i);
+        let a = number_at(file, blocked, table, seat, s, i, kept);
         i += 1;
-        if reach_within(file, blocked, table, seat, s, count, k, a, b) {
+        if reach_within(file, blocked, table, seat, s, count, k, a, b, kept) {
             return true;
         }
     }
@@ -147,8 +154,9 @@ pub fn count_by_midpoints(
     seat: Seat,
     s: usize,
     count: usize,
+    kept: &[u32],
 ) -> usize
-    requires { ⌜ StepCounted (now file) (now blocked) (now table) seat s count ⌝ }
+    requires { ⌜ StepCounted (now file) (now blocked) (now table) seat s count (now kept) ⌝ }
     ensures { λ r. ⌜ r ≡ length (stepMerged (now (file .entry)) (now (blocked .entry)) seat s) ⌝ }
 {
     let k = doublings(count);
@@ -157,7 +165,7 @@ pub fn count_by_midpoints(
     'numbers: while j < count {
         let at = j;
         j += 1;
-        if !drops_out(file, blocked, table, seat, s, count, k, at) {
+        if !drops_out(file, blocked, table, seat, s, count, k, at, kept) {
             stay += 1;
         }
     }

@@ -13,14 +13,17 @@ use Rattle.geometry.specs.declared.Height.{Height}
 use Rattle.geometry.specs.Bounds.{PointWithin}
 use Rattle.answers.specs.declared.Check.the-variants.{Passed}
 use Rattle.hits.specs.declared.Candidate.{Candidate}
+use Rattle.ship.specs.Layout.{stepsIn}
 use Rattle.ship.specs.Questions.{firstNo}
 use Rattle.survey.specs.declared.Seat.{Seat}
 use Rattle.survey.specs.Search.{candidates, triedIn}
 use Rattle.walking.specs.declared.Next.{Next}
 use Rattle.walking.specs.declared.Next.the-variants.{Reached, Ended}
-use Rattle.walking.specs.Sees.{shownBy, seenBy, SearchReady, CandidateIn}
+use Rattle.walking.specs.Sees.{shownBy, seenBy, FileReady, CandidateIn}
+use Rattle.walking.specs.Lists.{WalkReady}
 use Rattle.walking.specs.Walk.{candidatesAfter, triedAfter, leftOf, leftTried, NextIn, WalkedStep, WalkedAfter}
 use Rattle.walking.proofs.ShownLaws.{candidate-within, few-tried, few-candidates}
+use Rattle.walking.proofs.Reaching.{step-few}
 use Rattle.placing.specs.declared.Best.the-variants.{NoneYet}
 use Rattle.placing.specs.declared.Tally.{Tally}
 use Rattle.placing.specs.Tally.{bestFrom, startOf, takeWith, stepTally, BestWithin, TallyWithin}
@@ -38,13 +41,14 @@ pub record Taking (file blocked : List ℕ) (seat : Seat) (s tried : ℕ) (tally
   pub best-is : bestFrom (seenBy file blocked seat) (tally .best) (leftOf (seenBy file blocked seat) next) ≡ bestFrom (seenBy file blocked seat) NoneYet (candidates (seenBy file blocked seat) s)
   pub best-within : BestWithin (tally .best)
 
-pub taking-all : {file blocked : List ℕ} {table : List ℤ} {seat : Seat} {s tried : ℕ} {next : Next} → SearchReady file blocked table seat → s < 16 → tried ≤ 38656 * s
+pub taking-all : {file blocked : List ℕ} {table : List ℤ} {seat : Seat} {array : List ℕ} {s tried : ℕ} {next : Next} → WalkReady file blocked table seat array
+    → s < stepsIn file → tried ≤ 38656 * s
     → WalkedStep file (seenBy file blocked seat) s next → Taking file blocked seat s tried (startOf tried) next
-taking-all {file} {blocked} {table} {seat} {s} {tried} ready l few w =
+taking-all {file} {tried = tried} ready l few w =
     record {
-      passed = ready .file-ready .file-passed;
-      place-within = ready .place-within;
-      step-below = l;
+      passed = ready .search-ready .file-ready .file-passed;
+      place-within = ready .search-ready .place-within;
+      step-below = step-few file (ready .search-ready .file-ready .file-passed) l;
       few = few;
       next-in = w .within;
       tried-is = ap (λ (n : ℕ). tried + n) (sym (w .tried-is));
@@ -127,4 +131,7 @@ module _ {file blocked : List ℕ} {seat : Seat} {s tried : ℕ} {tally : Tally}
                 (candidate-within (h .passed) taking-in (h .place-within));
           })
 
-pub ruleset taking = (taking-all, ended-fits, taking-ended, ended-within, taking-in, tried-room, count-room, taking-less, taking-more)
+pub taking-passed : {file blocked : List ℕ} {table : List ℤ} {seat : Seat} {array : List ℕ} → WalkReady file blocked table seat array → FileReady file table
+taking-passed ready = ready .search-ready .file-ready
+
+pub ruleset taking = (taking-passed, taking-all, ended-fits, taking-ended, ended-within, taking-in, tried-room, count-room, taking-less, taking-more)

@@ -4,10 +4,13 @@ ghost use mathlib.Core.List.{[], _∷_};
 ghost use Prim.Native.Nat.{_+_, _*_, _^_, _≤_, _<_};
 ghost use Rattle.geometry.specs.Bounds.{HeightWithin};
 ghost use Rattle.records.specs.Record.{unplacedRecord};
+ghost use Rattle.ship.specs.Layout.{stepsIn};
 ghost use Rattle.ship.specs.Decode.{decode};
+ghost use Rattle.keeping.specs.Lists.{ListsRoom};
 ghost use Rattle.survey.specs.Record.{heightKind, heightBits, recordAtPlace};
 ghost use Rattle.survey.specs.Search.{seatRecord};
 ghost use Rattle.walking.specs.Sees.{seenBy, SearchReady, CandidateWithin};
+ghost use Rattle.walking.specs.Lists.{Sifted, WalkReady};
 ghost use Rattle.placing.specs.Tally.{chooseWith, takeWith, stepTally, TallyWithin, CountsWithin};
 use geometry::Height;
 use geometry::Vec2;
@@ -66,8 +69,11 @@ fn take_step(
     seat: Seat,
     s: usize,
     tried: usize,
+    kept: &[u32],
+    near: &mut [u32],
 ) -> Tally
-    requires { ⌜ SearchReady (now file) (now blocked) (now table) seat × ((s < 16) × (tried ≤ 38656 * s)) ⌝ }
+    requires { ⌜ WalkReady (now file) (now blocked) (now table) seat (now kept)
+        × ((s < stepsIn (now file)) × (tried ≤ 38656 * s)) ⌝ }
     ensures { λ r. ⌜ (r ≡ stepTally (seenBy (now (file .entry)) (now (blocked .entry)) seat) s tried) × TallyWithin (s + 1) r ⌝ }
 {
     let wish = seat.wish;
@@ -76,7 +82,7 @@ fn take_step(
         candidates: 0,
         best: Best::NoneYet,
     };
-    let mut next = walking::first(file, blocked, table, seat, s);
+    let mut next = walking::first(file, blocked, table, seat, s, kept, near);
     'candidates: loop {
         match next {
             Next::Ended(n) => {
@@ -91,7 +97,7 @@ fn take_step(
                 let place = walking::place_of(file, table, seat.place, c);
                 let height = walking::height_of(file, table, seat.place, c);
                 tally = take(wish, tally, n, c, place, height);
-                next = walking::after(file, blocked, table, seat, c);
+                next = walking::after(file, blocked, table, seat, c, kept, near);
             }
         }
     }
@@ -151,16 +157,23 @@ fn unplaced_record(tried: usize) -> SeatRecord
     }
 }
 
-// The search of a seat: the first step with any hit is the last.
-pub fn place_seat(file: &[u8], blocked: &[u8], table: &[i32; 2432], seat: Seat) -> SeatRecord
-    requires { ⌜ SearchReady (now file) (now blocked) (now table) seat ⌝ }
+// The steps of a seat's search over its kept lists: the first with any hit is the last.
+fn search_steps(
+    file: &[u8],
+    blocked: &[u8],
+    table: &[i32; 2432],
+    seat: Seat,
+    kept: &[u32],
+    near: &mut [u32],
+) -> SeatRecord
+    requires { ⌜ WalkReady (now file) (now blocked) (now table) seat (now kept) ⌝ }
     ensures { λ r. ⌜ r ≡ seatRecord (seenBy (now (file .entry)) (now (blocked .entry)) seat) (decode (now (file .entry)) .steps) ⌝ }
 {
     let steps = decks::steps(file);
     let mut tried: usize = 0;
     let mut s: usize = 0;
     'steps: while s < steps {
-        let tally = take_step(file, blocked, table, seat, s, tried);
+        let tally = take_step(file, blocked, table, seat, s, tried, kept, near);
         let best = tally.best;
         if let Best::Chosen(c, place, height) = best {
             return placed_record(c, place, height, tally.tried, tally.candidates);
@@ -169,4 +182,22 @@ pub fn place_seat(file: &[u8], blocked: &[u8], table: &[i32; 2432], seat: Seat) 
         s += 1;
     }
     unplaced_record(tried)
+}
+
+// The search of a seat. Polygons that no sample of it can reach are sifted out first; the lists that are left in `kept` serve a later walk over its
+// last step. What `near` holds is of no use to anybody afterwards.
+pub fn place_seat(
+    file: &[u8],
+    blocked: &[u8],
+    table: &[i32; 2432],
+    seat: Seat,
+    kept: &mut [u32],
+    near: &mut [u32],
+) -> SeatRecord
+    requires { ⌜ SearchReady (now file) (now blocked) (now table) seat × ListsRoom (now kept) ⌝ }
+    ensures { λ r. ⌜ (r ≡ seatRecord (seenBy (now (file .entry)) (now (blocked .entry)) seat) (decode (now (file .entry)) .steps))
+        × Sifted (now (file .entry)) (seat .place) (now (kept .exit)) ⌝ }
+{
+    walking::sift_decks(file, blocked, seat, kept);
+    search_steps(file, blocked, table, seat, kept, near)
 }

@@ -56,7 +56,7 @@ fraction-within z h =
     div-within (by-test 1 tt) false 1 (pos 24) (2 ^ 24) (omega arith) (omega arith) (omega arith)
     (ofInt-within (by-test (2 ^ 24) tt) z h)
 
-ring-within : (s i : ℕ) → PointWithin 1 (ringDirection s i)
+pub ring-within : (s i : ℕ) → PointWithin 1 (ringDirection s i)
 ring-within s i =
     record {
       x = fraction-within (directionA s i) (size (2 * pairNumber s i));

@@ -1,13 +1,12 @@
-// The polygon test, a deck's turn and heights over a ship file in place (document 01, sections 3 to 6). Nothing here knows of seats or records.
+// The polygon test and heights over a ship file in place (document 01, sections 3 and 6). Nothing here knows of seats or records.
 ghost use mathlib.Core.Path.{_≡_};
 ghost use Prim.Native.Nat.{_+_, _*_, _<_};
 ghost use lib.ListN.{length, getD};
 ghost use Rattle.geometry.specs.Heights.{meanHeight};
-ghost use Rattle.ring.specs.Table.{directions};
 ghost use Rattle.ship.specs.Decode.{deckAt};
 ghost use Rattle.ship.specs.Model.{pointOf, heightOf, cornersOf, polygonCorners};
 ghost use Rattle.ship.specs.Questions.{DeckOfPassed};
-ghost use Rattle.search.specs.OnDeck.{passesAt, deckTurn, nextHit, heightOn};
+ghost use Rattle.search.specs.OnDeck.{passesAt, nextHit, heightOn};
 use geometry::EdgeTest;
 use geometry::Height;
 use geometry::HeightSum;
@@ -16,7 +15,7 @@ use hits::Hit;
 use ship::Blocks;
 
 // The coordinates of polygon k's vertex j.
-fn corner_point(file: &[u8], b: Blocks, k: usize, j: usize) -> Vec2
+pub fn corner_point(file: &[u8], b: Blocks, k: usize, j: usize) -> Vec2
     requires { ⌜ DeckOfPassed (now file) b × ((k < b .polygons) × (j < length (cornersOf (deckAt (now file) b) k))) ⌝ }
     ensures { λ r. ⌜ r ≡ pointOf (deckAt (now (file .entry)) b) (getD (cornersOf (deckAt (now (file .entry)) b) k) j 0) ⌝ }
 {
@@ -56,31 +55,6 @@ pub fn point_in_polygon(file: &[u8], b: Blocks, k: usize, p: Vec2) -> bool
         EdgeTest::Outside => false,
         EdgeTest::Next => true,
     }
-}
-
-// The turn of a deck in step s around p, in the deck's own coordinates: the first sample that hits ends it.
-pub fn first_hit(file: &[u8], b: Blocks, t: &[i32; 2432], p: Vec2, reach: f32, s: usize) -> Hit
-    requires { ⌜ DeckOfPassed (now file) b × ((now t ≡ directions) × (s < 16)) ⌝ }
-    ensures { λ r. ⌜ r ≡ deckTurn (deckAt (now (file .entry)) b) p reach s ⌝ }
-{
-    let polygons = b.polygons;
-    let samples = 10 * s + 1;
-    let mut i: usize = 0;
-    let hit = 'samples: loop {
-        let q = ring::sample(t, p, reach, s, i);
-        let mut k: usize = 0;
-        'polygons: while k < polygons {
-            if point_in_polygon(file, b, k, q) {
-                break 'samples Hit::At(i, k);
-            }
-            k += 1;
-        }
-        i += 1;
-        if i >= samples {
-            break 'samples Hit::Missed;
-        }
-    };
-    hit
 }
 
 // The first polygon from number k on that passes at q, which is sample i.

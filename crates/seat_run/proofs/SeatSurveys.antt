@@ -18,7 +18,7 @@ use Rattle.ship.specs.Layout.{decksIn}
 use Rattle.ship.specs.Decode.{decode}
 use Rattle.ship.specs.Questions.{firstNo}
 use Rattle.ship.proofs.Facts.{decks-few}
-use Rattle.ship.proofs.ModelFacts.{decks-length, decode-steps}
+use Rattle.ship.proofs.ModelFacts.{decks-length, steps-in}
 use Rattle.survey.specs.declared.Seat.{Seat}
 use Rattle.survey.specs.declared.Wish.{Wish}
 use Rattle.survey.specs.declared.Wish.the-variants.{NoWish, Wished}
@@ -71,7 +71,7 @@ module _ (file : List ℕ) (passed : firstNo file ≡ Passed) (blocked : List �
       let there : c .deck < decksIn file = omega (arith, h .on-open .0, decks-length file) in
       let step = h .of-step in
       record {
-        turn = record { deck = there; step = omega (arith, decode-steps file passed .1) };
+        turn = record { deck = there; step = omega (arith, steps-in file) };
         sample = omega (arith, h .first-hit .in-ring);
         polygon = omega (arith, h .passes .0, polygons-shown file there refl (seat .place));
       }

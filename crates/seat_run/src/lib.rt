@@ -11,6 +11,7 @@ ghost use Rattle.answers.specs.Checks.{checkEach};
 ghost use Rattle.records.specs.Record.{recordSize, recordBytes};
 ghost use Rattle.ship.specs.Floats.{inSize};
 ghost use Rattle.ship.specs.Decode.{decode};
+ghost use Rattle.keeping.specs.Lists.{ListsRoom};
 ghost use Rattle.seat_run.specs.SeatFile.{seatSize, seatWord, seatFloat, seatAt, seatCount, kindAllowed, question16Seat, seatCheck};
 ghost use Rattle.seat_run.specs.Run.{recordOfSeat, runCheck, RunReplied, RecordsReady, RecordsPut};
 ghost use Rattle.seat_run.specs.Survey.{Surveyed};
@@ -19,6 +20,8 @@ ghost use Rattle.seat_run.specs.NoDecks.{NoDecksReplied};
 use answers::Answer;
 use answers::Check;
 use geometry::Vec2;
+use keeping::KEPT_SIZE;
+use keeping::NEAR_SIZE;
 use records::RECORD_SIZE;
 use records::SeatRecord;
 use survey::Seat;
@@ -149,19 +152,30 @@ pub fn put_seat(
     seats: &[u8],
     i: usize,
     out: &mut [u8],
+    kept: &mut [u32],
+    near: &mut [u32],
 ) -> SeatRecord
-    requires { ⌜ RecordsReady (now file) (now blocked) (now table) (now seats) (now out) × (i < seatCount (now seats)) ⌝ }
+    requires { ⌜ RecordsReady (now file) (now blocked) (now table) (now seats) (now out)
+        × ((i < seatCount (now seats)) × ListsRoom (now kept)) ⌝ }
     ensures { λ r. ⌜ (r ≡ recordOfSeat (decode (now (file .entry))) (now (blocked .entry)) (now (seats .entry)) i)
         × (now (out .exit) ≡ splice (now (out .entry)) (recordSize * i) (recordBytes r)) ⌝ }
 {
-    let record = placing::place_seat(file, blocked, table, seat_at(seats, i));
+    let record = placing::place_seat(file, blocked, table, seat_at(seats, i), kept, near);
     records::put_record(out, i, record);
     record
 }
 
 // One record a seat, in list order.
-fn put_records(file: &[u8], blocked: &[u8], table: &[i32; 2432], seats: &[u8], out: &mut [u8])
-    requires { ⌜ RecordsReady (now file) (now blocked) (now table) (now seats) (now out) ⌝ }
+fn put_records(
+    file: &[u8],
+    blocked: &[u8],
+    table: &[i32; 2432],
+    seats: &[u8],
+    out: &mut [u8],
+    kept: &mut [u32],
+    near: &mut [u32],
+)
+    requires { ⌜ RecordsReady (now file) (now blocked) (now table) (now seats) (now out) × ListsRoom (now kept) ⌝ }
     ensures { λ _. ⌜ RecordsPut (now (file .entry)) (now (blocked .entry)) (now (seats .entry))
         (now (out .entry)) (now (out .exit)) ⌝ }
 {
@@ -170,13 +184,20 @@ fn put_records(file: &[u8], blocked: &[u8], table: &[i32; 2432], seats: &[u8], o
     'seats: while i < count {
         let seat = i;
         i += 1;
-        put_seat(file, blocked, table, seats, seat, out);
+        put_seat(file, blocked, table, seats, seat, out, kept, near);
     }
 }
 
-// The seat run. The surveyor's statement holds of every run that is not refused, and a seat that names a blocked deck is not searched for.
-// On a hull with no decks yet no seat is placed.
-pub fn run(file: &[u8], blocked: &[u8], seats: &[u8], out: &mut [u8]) -> Answer
+// The run, over two arrays of any length that it is lent for kept lists. They alter no answer.
+pub fn run_over(
+    file: &[u8],
+    blocked: &[u8],
+    seats: &[u8],
+    out: &mut [u8],
+    kept: &mut [u32],
+    near: &mut [u32],
+) -> Answer
+    requires { ⌜ ListsRoom (now kept) ⌝ }
     ensures replied { λ r. ⌜ RunReplied (now (file .entry)) (now (blocked .entry)) (now (seats .entry))
         (now (out .entry)) (now (out .exit)) r ⌝ }
     ensures surveyed { λ r. ⌜ Surveyed (now (file .entry)) (now (blocked .entry)) (now (seats .entry)) r (now (out .exit)) ⌝ }
@@ -193,6 +214,21 @@ pub fn run(file: &[u8], blocked: &[u8], seats: &[u8], out: &mut [u8]) -> Answer
         return Answer::Refused(20);
     }
     let table = ring::all_directions();
-    put_records(file, blocked, &table, seats, out);
+    put_records(file, blocked, &table, seats, out, kept, near);
     Answer::Wrote(count)
+}
+
+// The seat run. The surveyor's statement holds of every run that is not refused, and a seat that names a blocked deck is not searched for.
+// On a hull with no decks yet no seat is placed.
+pub fn run(file: &[u8], blocked: &[u8], seats: &[u8], out: &mut [u8]) -> Answer
+    ensures replied { λ r. ⌜ RunReplied (now (file .entry)) (now (blocked .entry)) (now (seats .entry))
+        (now (out .entry)) (now (out .exit)) r ⌝ }
+    ensures surveyed { λ r. ⌜ Surveyed (now (file .entry)) (now (blocked .entry)) (now (seats .entry)) r (now (out .exit)) ⌝ }
+    ensures unsearched { λ r. ⌜ BlockedUnplaced (now (file .entry)) (now (blocked .entry)) (now (seats .entry)) r (now (out .exit)) ⌝ }
+    ensures no_decks { λ r. ⌜ NoDecksReplied (now (file .entry)) (now (blocked .entry)) (now (seats .entry))
+        (now (out .entry)) (now (out .exit)) r ⌝ }
+{
+    let mut kept = [0u32; KEPT_SIZE];
+    let mut near = [0u32; NEAR_SIZE];
+    run_over(file, blocked, seats, out, &mut kept, &mut near)
 }

@@ -1,12 +1,14 @@
 // Runs stored cases of the calls of document 01, sections 5 to 7, and document 02, point 4. The input is cases, one after the other. A case is the
 // letter of its call in a word, the call's lengths and numbers (all u32, little-endian; a float by its bit pattern), and then the bytes of the lengths:
-//   R, the run: file length, blocked length, seats length, output length
+//   R, the run: file length, blocked length, seats length, output length. It is made again with kept lists that overflow, and has to answer the same
 //   L, the run with a load sheet: the same, table length, work length, and how many bytes of the table the sheet takes
 //   P, the closest points, and Q, the closest point: file length, blocked length, x, y, deck, output length
 //   H, the height: file length, x, y, packed polygon, output length
 // The answer's lines are those of the crate `cases`. What is no case gives the one word `bad`, and nothing after it is read.
 ghost use Prim.Native.Nat.{_<_, _≤_};
 ghost use lib.ListN.{length};
+ghost use Rattle.keeping.specs.Lists.{ListsRoom};
+use answers::Answer;
 use cases::FILL;
 use cases::Place;
 use cases::place_at;
@@ -14,17 +16,96 @@ use cases::print;
 use cases::print_answer;
 use cases::print_tabled;
 use geometry::Vec2;
+use keeping::LISTS_SIZE;
 use words::size_at;
 use words::u32_at;
 
 const MOST_OUTPUT: usize = 4096;
 
+// Room for so many numbers in the kept lists of a run that is to overflow them, after the decks' own.
+const MOST_SHORT: usize = 3;
+
+const KEPT_SHORT: usize = 771;
+
 // Room for the records of more than 256 seats, and for the sheet of a ship of 256 decks.
 const MOST_LENT: usize = 16384;
 
 // ---- the calls, with their lines
-fn run(file: &[u8], blocked: &[u8], seats: &[u8], out: &mut [u8]) {
+// Whether two outputs have the same bytes.
+fn same(a: &[u8], b: &[u8]) -> bool {
+    if a.len() != b.len() {
+        return false;
+    }
+    let mut i: usize = 0;
+    'bytes: while i < a.len() {
+        if a[i] != b[i] {
+            return false;
+        }
+        i += 1;
+    }
+    true
+}
+
+fn same_answer(a: Answer, b: Answer) -> bool {
+    match a {
+        Answer::Wrote(n) => match b {
+            Answer::Wrote(m) => n == m,
+            Answer::Refused(_) => false,
+        },
+        Answer::Refused(n) => match b {
+            Answer::Wrote(_) => false,
+            Answer::Refused(m) => n == m,
+        },
+    }
+}
+
+// The run once more, over other arrays for its kept lists. A line says so where anything is other than it was.
+fn run_again(
+    file: &[u8],
+    blocked: &[u8],
+    seats: &[u8],
+    out: &[u8],
+    first: Answer,
+    again: &mut [u8],
+    kept: &mut [u32],
+    near: &mut [u32],
+)
+    requires { ⌜ ListsRoom (now kept) ⌝ }
+{
+    let answer = seat_run::run_over(file, blocked, seats, again, kept, near);
+    if !same_answer(answer, first) || !same(again, out) {
+        print(b"other with short lists\n");
+    }
+}
+
+// Arrays with room for n numbers, so that the lists overflow.
+fn run_short(file: &[u8], blocked: &[u8], seats: &[u8], out: &[u8], first: Answer, n: usize)
+    requires { ⌜ (length (now out) ≤ 4096) × (n ≤ 3) ⌝ }
+{
+    let mut kept = [0u32; KEPT_SHORT];
+    let mut near = [0u32; MOST_SHORT];
+    let mut again = [FILL; MOST_OUTPUT];
+    let room = out.len();
+    let end = LISTS_SIZE + n;
+    run_again(
+        file,
+        blocked,
+        seats,
+        out,
+        first,
+        &mut again[0..room],
+        &mut kept[0..end],
+        &mut near[0..n],
+    );
+}
+
+fn run(file: &[u8], blocked: &[u8], seats: &[u8], out: &mut [u8])
+    requires { ⌜ length (now out) ≤ 4096 ⌝ }
+{
     let answer = seat_run::run(file, blocked, seats, out);
+    run_short(file, blocked, seats, out, answer, 0);
+    run_short(file, blocked, seats, out, answer, 1);
+    run_short(file, blocked, seats, out, answer, 3);
     print_answer(answer, 36, 36, out);
 }
 

@@ -68,11 +68,8 @@ module _ (file : List ℕ) (p towards : Vec2) (deck : ℕ) {r : Check} (said : r
             turn-ready =
                 record {
                   file-passed = all .file-passed;
-                  turn =
-                      record {
-                        deck = omega (arith, g .looked .0, decks-length file);
-                        step = omega (arith, g .below, steps-in file, steps-range file (all .file-passed) .1);
-                      };
+                  deck = omega (arith, g .looked .0, decks-length file);
+                  step = omega (arith, g .below, steps-in file, steps-range file (all .file-passed) .1);
                 };
             polygon = omega (arith, g .passes .0, polygons-few file (all .file-passed) p (c .deck));
             point-within = all .from-within;

@@ -92,7 +92,7 @@ unfolding stepGives
 decks-start file p direction deck s = record { same = let e : decksIn file - 0 ≡ decksIn file = omega arith in rw (e, decks-length file) }
 
 pub deck-turn : {file : List ℕ} {s d count : ℕ} → firstNo file ≡ Passed → s < 16 → count ≡ decksIn file → d < count → TurnReady file s d
-deck-turn passed few all l = record { file-passed = passed; turn = record { deck = omega arith; step = few } }
+deck-turn passed few all l = record { file-passed = passed; deck = omega arith; step = few }
 
 pub ruleset seeking-decks = (decks-start, deck-turn, seeking-none, seeking-other, seeking-missed, seeking-found)
 

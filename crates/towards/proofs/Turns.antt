@@ -58,10 +58,10 @@ first-passing passes s d k (suc n) = go (passes k) (first-passing passes s d (k 
 
 module _ (file : List ℕ) (p direction : Vec2) {s d : ℕ} (ready : TurnReady file s d) {b : Blocks} (is : b ≡ blocksAt file d) where
   here : deckOf (decode file) d ≡ deckAt file b
-  here = deck-is file (ready .turn .deck) is
+  here = deck-is file (ready .deck) is
 
   pub turn-deck : DeckOfPassed file b
-  turn-deck = record { number = d; there = ready .turn .deck; is = is; passed = ready .file-passed }
+  turn-deck = record { number = d; there = ready .deck; is = is; passed = ready .file-passed }
 
   -- ---- `sample_on`
   pub sample-is : {o around q : Vec2} {reach : Float} → o ≡ deckAt file b .offset → around ≡ subOf p o → reach ≡ decode file .reach
@@ -109,7 +109,7 @@ module _ (file : List ℕ) (p direction : Vec2) {c : Place} (ready : PlaceReady 
   ready-turn = ready .turn-ready
 
   pub ready-packed : (c .deck < 256) × (c .polygon < 2 ^ 24)
-  ready-packed = (omega (arith, ready .turn-ready .turn .deck, decks-few file (ready .turn-ready .file-passed)), ready .polygon)
+  ready-packed = (omega (arith, ready .turn-ready .deck, decks-few file (ready .turn-ready .file-passed)), ready .polygon)
 
   -- no sample and no place is a NaN or infinite
   pub ready-point : {point : Vec2} → point ≡ pointTowards (decode file) p direction (c .step) (c .deck) → PointWithin 3030000 point
@@ -117,7 +117,7 @@ module _ (file : List ℕ) (p direction : Vec2) {c : Place} (ready : PlaceReady 
   ready-point at =
       let o = offset-within (turn-deck file p direction (ready .turn-ready) refl) in
       rw at
-      (place-along bounds-towards (ready .direction-within) (decode-reach file (ready .turn-ready .file-passed)) (ready .turn-ready .turn .step) (ready .point-within)
+      (place-along bounds-towards (ready .direction-within) (decode-reach file (ready .turn-ready .file-passed)) (ready .turn-ready .step) (ready .point-within)
       (rw (here file p direction (ready .turn-ready) refl) o))
 
   entry-long : length (placeReply file p direction c .bytes) ≡ entrySize * 1

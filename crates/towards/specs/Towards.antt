@@ -24,7 +24,6 @@ use Rattle.ship.specs.Decode.{decode}
 use Rattle.ship.specs.Packed.{packedOf}
 use Rattle.ship.specs.Questions.{firstNo}
 use Rattle.search.specs.OnDeck.{passesAt}
-use Rattle.walking.specs.Sees.{TurnIn}
 use Rattle.calls.specs.Closest.{question16, entryBytes}
 use Rattle.towards.specs.declared.Place.{Place}
 use Rattle.towards.specs.declared.Found.{Found}
@@ -99,7 +98,8 @@ TowardsCode file p towards deck out out′ r = RepliedCode (towardsReply file p 
 -- a passed file, and deck d's turn in step s
 pub record TurnReady (file : List ℕ) (s d : ℕ) : Type 0 where
   pub file-passed : firstNo file ≡ Passed
-  pub turn : TurnIn file d s
+  pub deck : d < decksIn file
+  pub step : s < 16
 
 -- so that a place can be written: its polygon can be packed, and its point has bits
 pub record PlaceReady (file : List ℕ) (p direction : Vec2) (c : Place) : Type 0 where

@@ -1,3 +1,5 @@
 pub mod ShownLaws
+pub mod Reaching
+pub mod Sifts
 pub mod Walks
 pub mod Passing

@@ -17,7 +17,8 @@ use Rattle.survey.specs.declared.Seat.{Seat}
 use Rattle.survey.specs.Search.{candidates}
 use Rattle.walking.specs.declared.Next.{Next}
 use Rattle.walking.specs.declared.Next.the-variants.{Reached, Ended}
-use Rattle.walking.specs.Sees.{shownBy, seenBy, SearchReady, CandidateIn, CandidateWithin}
+use Rattle.walking.specs.Sees.{shownBy, seenBy, CandidateIn, CandidateWithin}
+use Rattle.walking.specs.Lists.{WalkReady}
 use Rattle.walking.specs.Walk.{candidatesAfter, leftOf, NextIn, WalkedStep, WalkedAfter}
 use Rattle.walking.proofs.ShownLaws.{candidate-within, few-candidates}
 
@@ -32,10 +33,10 @@ pub record Passing (file blocked : List ℕ) (seat : Seat) (s n : ℕ) (next : N
   pub next-in : NextIn file next
   pub left-is : drop n (candidates (seenBy file blocked seat) s) ≡ leftOf (seenBy file blocked seat) next
 
-pub passing-all : {file blocked : List ℕ} {table : List ℤ} {seat : Seat} {s : ℕ} {next : Next} → SearchReady file blocked table seat
+pub passing-all : {file blocked : List ℕ} {table : List ℤ} {seat : Seat} {array : List ℕ} {s : ℕ} {next : Next} → WalkReady file blocked table seat array
     → WalkedStep file (seenBy file blocked seat) s next → Passing file blocked seat s 0 next
 passing-all ready w =
-    record { passed = ready .file-ready .file-passed; place-within = ready .place-within; next-in = w .within; left-is = w .left-is }
+    record { passed = ready .search-ready .file-ready .file-passed; place-within = ready .search-ready .place-within; next-in = w .within; left-is = w .left-is }
 
 module _ {file blocked : List ℕ} {seat : Seat} {s n : ℕ} {next : Next} (h : Passing file blocked seat s n next) where
   pub passing-ended : {m : ℕ} → next ≡ Ended m → length (candidates (seenBy file blocked seat) s) ≤ n

@@ -7,6 +7,7 @@ use native.Mathlib.Omega.{arith}
 use native.Mathlib.Nat.{mul-le-mul}
 use mir.Syntax.{w64}
 use mir.Val.{Fits}
+use lib.IntN.{ℤ}
 use lib.ListN.{length, List·getD-eq-default}
 use lib.Dec.{ltb}
 use lib.Ieee.{Float}
@@ -26,14 +27,14 @@ use Rattle.ship.specs.Layout.{decksIn, blocksAt}
 use Rattle.ship.specs.Model.{Deck, noDeck, deckOf}
 use Rattle.ship.specs.Decode.{deckAt, decode}
 use Rattle.ship.specs.Questions.{firstNo, DeckOfPassed}
-use Rattle.ship.proofs.Facts.{sound, decks-few}
+use Rattle.ship.proofs.Facts.{sound, decks-few, steps-range}
 use Rattle.ship.proofs.ModelFacts.{polygons-length, offset-within, decks-length, deck-of, decode-reach}
 use Rattle.survey.specs.declared.Seat.{Seat}
 use Rattle.survey.specs.Search.{turn, candidates, triedIn}
 use Rattle.survey.proofs.Loops.{candidates-bound, tried-in-bound}
 use Rattle.search.specs.OnDeck.{deckTurn, nextHit, heightOn}
 use Rattle.search.proofs.HeightBound.{height-within}
-use Rattle.walking.specs.Sees.{sampleOn, placeOf, shownFrom, shownBy, seenBy, CandidateIn, CandidateWithin}
+use Rattle.walking.specs.Sees.{sampleOn, placeOf, shownFrom, shownBy, seenBy, FileReady, CandidateIn, CandidateWithin}
 use Rattle.walking.specs.Walk.{passingAfter}
 
 -- ---- a deck that is there
@@ -84,7 +85,10 @@ module _ (file : List ℕ) (p : Vec2) (c : Candidate) {b : Blocks} (on : Candida
   next-shown {q} at e =
       e ∙ rw (at, ← here) (polygon-hit-same _ _ (c .sample) (λ k. refl) (c .polygon + 1) (length (deckOf (decode file) (c .deck) .polygons) - (c .polygon + 1)))
 
-pub ruleset shows = (turn-shown, sample-shown, polygon-there, place-shown, height-shown, next-fits, next-shown)
+pub step-small : {file : List ℕ} {table : List ℤ} {c : Candidate} → FileReady file table → CandidateIn file c → c .step < 16
+step-small {file} ready on = omega (arith, on .turn .step, steps-range file (ready .file-passed) .1)
+
+pub ruleset shows = (step-small, turn-shown, sample-shown, polygon-there, place-shown, height-shown, next-fits, next-shown)
 
 -- ---- sizes
 pub deck-passed : {file : List ℕ} → firstNo file ≡ Passed → {d : ℕ} → d < decksIn file → DeckOfPassed file (blocksAt file d)
@@ -110,19 +114,22 @@ module _ {file : List ℕ} {c : Candidate} (passed : firstNo file ≡ Passed) (o
   here-is : deckOf (decode file) (c .deck) ≡ deckAt file (blocksAt file (c .deck))
   here-is = deck-is file (on .turn .deck) refl
 
+  step-few : c .step < 16
+  step-few = omega (arith, on .turn .step, steps-range file passed .1)
+
   place-small : PointWithin 3015000 (shownBy file p .place c)
   unfolding shownFrom placeOf sampleOn
   place-small =
-      place-within p (deckOf (decode file) (c .deck) .offset) (decode file .reach) (c .step) (c .sample) (on .turn .step)
+      place-within p (deckOf (decode file) (c .deck) .offset) (decode file .reach) (c .step) (c .sample) step-few
       (decode-reach file passed) within (rw here-is (offset-within deck))
 
   pub candidate-within : CandidateWithin c (shownBy file p .place c) (shownBy file p .height c)
   unfolding shownFrom
   candidate-within =
       record {
-        step = on .turn .step;
+        step = step-few;
         deck = omega (arith, on .turn .deck, decks-few file passed);
-        sample = omega (arith, on .turn .step, on .sample);
+        sample = omega (arith, step-few, on .sample);
         polygon = omega (arith, on .polygon, sound deck .few-polygons);
         place-within = place-small;
         height-within = rw here-is (height-within deck (c .polygon) (shownBy file p .place c) place-small);

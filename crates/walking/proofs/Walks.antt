@@ -7,6 +7,8 @@ use native.Mathlib.Omega.{arith}
 use native.Mathlib.Nat.{add-assoc, add-zero}
 use mir.Syntax.{w64}
 use mir.Val.{Fits}
+use lib.IntN.{ℤ}
+use lib.ListN.{length}
 use Rattle.words.proofs.Collecting.{collect-yes, collect-no, collect-none, sum-yes, sum-no, sum-none}
 use Rattle.answers.specs.declared.Check.the-variants.{Passed}
 use Rattle.hits.specs.declared.Candidate.{Candidate}
@@ -14,7 +16,7 @@ use Rattle.hits.specs.declared.Hit.{Hit}
 use Rattle.hits.specs.declared.Hit.the-variants.{At, Missed}
 use Rattle.hits.specs.Candidates.{candidate}
 use Rattle.hits.specs.Hits.{triedOf}
-use Rattle.ship.specs.Layout.{decksIn}
+use Rattle.ship.specs.Layout.{decksIn, stepsIn}
 use Rattle.ship.specs.Questions.{firstNo}
 use Rattle.ship.proofs.Facts.{decks-few}
 use Rattle.ship.proofs.ModelFacts.{decks-length}
@@ -24,9 +26,11 @@ use Rattle.survey.specs.Search.{turn, turnGives, turnTried, candidatesFrom, tri
 use Rattle.survey.proofs.Loops.{passing-missed, passing-at, hit-polygon, hit-sample, gives-hit, turn-tried-bound}
 use Rattle.walking.specs.declared.Next.{Next}
 use Rattle.walking.specs.declared.Next.the-variants.{Reached, Ended}
-use Rattle.walking.specs.Sees.{shownBy, seenBy, TurnIn, CandidateIn}
+use Rattle.walking.specs.Sees.{shownBy, seenBy, CandidateIn}
+use Rattle.walking.specs.Lists.{WalkReady, TurnReady, PassingReady}
 use Rattle.walking.specs.Walk.{passingAfter, candidatesAfter, triedAfter, Walked, WalkedFrom, WalkedStep, WalkedAfter}
 use Rattle.walking.proofs.ShownLaws.{polygons-shown}
+use Rattle.walking.proofs.Reaching.{step-few}
 
 -- ---- `turns_from`: the decks from d on and before e gave no candidate, and took `tried` samples
 pub record Turning (file blocked : List ℕ) (seat : Seat) (s d tried e : ℕ) : Type 0 where
@@ -37,8 +41,21 @@ pub record Turning (file blocked : List ℕ) (seat : Seat) (s d tried e : ℕ) :
 pub turning-all : (file blocked : List ℕ) (seat : Seat) (s d : ℕ) → Turning file blocked seat s d 0 d
 turning-all file blocked seat s d = record { same = refl; tried-is = omega arith; few = omega arith }
 
-pub turn-in : {file : List ℕ} {n e s : ℕ} → n ≡ decksIn file → e < n → s < 16 → TurnIn file e s
-turn-in all l m = record { deck = omega arith; step = m }
+pub turn-ready : {file blocked : List ℕ} {table : List ℤ} {seat : Seat} {array : List ℕ} {n e s : ℕ} → WalkReady file blocked table seat array → n ≡ decksIn file → e < n
+    → s < stepsIn file → TurnReady file table (seat .place) e s array
+turn-ready ready all l m =
+    record {
+      file-ready = ready .search-ready .file-ready;
+      place-within = ready .search-ready .place-within;
+      turn = record { deck = omega arith; step = m };
+      sifted = ready .sifted;
+    }
+
+pub blocked-whole : {file blocked : List ℕ} {table : List ℤ} {seat : Seat} {array : List ℕ} → WalkReady file blocked table seat array → length blocked ≡ 32
+blocked-whole ready = ready .search-ready .blocked-long
+
+pub walk-passed : {file blocked : List ℕ} {table : List ℤ} {seat : Seat} {array : List ℕ} → WalkReady file blocked table seat array → firstNo file ≡ Passed
+walk-passed ready = ready .search-ready .file-ready .file-passed
 
 -- the decks of the view are those of the file
 from-view : (file blocked : List ℕ) (seat : Seat) (s d : ℕ) (next : Next)
@@ -84,9 +101,9 @@ module _ {file blocked : List ℕ} {seat : Seat} {s d tried n e : ℕ} (h : Turn
           ∙ ap (λ (m : ℕ). tried + m) (sum-yes (seenBy file blocked seat .opens) (turnTried (shownBy file (seat .place)) s) e (decksIn file) (omega arith) (sym asked ∙ opened) ∙ rw here)
           ∙ sym (add-assoc tried (triedOf s hit) (triedFrom (seenBy file blocked seat) s (e + 1) (decksIn file - (e + 1))))
 
-      module _ (step : s < 16) where
-        pub ring-small : triedOf s hit ≤ 151
-        ring-small = omega (arith, here, turn-tried-bound (seenBy file blocked seat) s e)
+      module _ (passed : firstNo file ≡ Passed) (step : s < stepsIn file) where
+        ring-small : triedOf s hit ≤ 151
+        ring-small = omega (arith, here, turn-tried-bound (seenBy file blocked seat) s e, step-few file passed step)
 
         pub tries-small : triedOf s hit < 2 ^ 32
         tries-small = omega (arith, ring-small)
@@ -123,7 +140,7 @@ module _ {file blocked : List ℕ} {seat : Seat} {s d tried n e : ℕ} (h : Turn
                     };
               })
 
-pub ruleset turning = (turning-all, turn-in, turning-none, turning-shut, tries-small, tries-fit, turning-missed, turning-hit)
+pub ruleset turning = (turning-all, turn-ready, blocked-whole, walk-passed, turning-none, turning-shut, tries-small, tries-fit, turning-missed, turning-hit)
 
 -- ---- `first`
 pub from-first : (file blocked : List ℕ) (seat : Seat) (s : ℕ) {next : Next} → WalkedFrom file (seenBy file blocked seat) s 0 next → WalkedStep file (seenBy file blocked seat) s next
@@ -156,10 +173,23 @@ module _ (file blocked : List ℕ) (seat : Seat) (c : Candidate) {hit : Hit} (on
         within = record { turn = on .turn; sample = on .sample; polygon = omega (arith, p .below, on .polygon) };
       }
 
+pub passing-ready : {file blocked : List ℕ} {table : List ℤ} {seat : Seat} {array : List ℕ} {c : Candidate} → WalkReady file blocked table seat array → CandidateIn file c
+    → PassingReady file table (seat .place) c array
+passing-ready ready on =
+    record {
+      file-ready = ready .search-ready .file-ready;
+      place-within = ready .search-ready .place-within;
+      candidate = on;
+      sifted = ready .sifted;
+    }
+
+pub next-step : {file : List ℕ} {c : Candidate} → CandidateIn file c → c .step < stepsIn file
+next-step on = on .turn .step
+
 pub next-deck : {file : List ℕ} {c : Candidate} → CandidateIn file c → c .deck + 1 ≤ decksIn file
 next-deck on = omega (arith, on .turn .deck)
 
 pub deck-fits : {file : List ℕ} {c : Candidate} → firstNo file ≡ Passed → CandidateIn file c → Fits w64 (c .deck + 1)
 deck-fits {file} passed on = record { fits = omega (arith, on .turn .deck, decks-few file passed) }
 
-pub ruleset afters = (after-missed, after-hit, next-deck, deck-fits)
+pub ruleset afters = (walk-passed, passing-ready, after-missed, after-hit, next-step, next-deck, deck-fits)

@@ -1,2 +1,3 @@
 pub mod Sees
 pub mod Walk
+pub mod Lists

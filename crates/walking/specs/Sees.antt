@@ -12,7 +12,7 @@ use Rattle.ring.specs.Table.{directions}
 use Rattle.ring.specs.Sample.{sampleOf}
 use Rattle.answers.specs.declared.Check.the-variants.{Passed}
 use Rattle.hits.specs.declared.Candidate.{Candidate}
-use Rattle.ship.specs.Layout.{decksIn, blocksAt}
+use Rattle.ship.specs.Layout.{decksIn, stepsIn, blocksAt}
 use Rattle.ship.specs.Questions.{firstNo}
 use Rattle.ship.specs.Decode.{decode}
 use Rattle.ship.specs.Model.{Ship, deckOf}
@@ -64,7 +64,7 @@ pub record SearchReady (file blocked : List ℕ) (table : List ℤ) (seat : Seat
 -- deck d's turn in step s
 pub record TurnIn (file : List ℕ) (d s : ℕ) : Type 0 where
   pub deck : d < decksIn file
-  pub step : s < 16
+  pub step : s < stepsIn file
 
 -- a candidate of a ring sample and of a polygon that are there
 pub record CandidateIn (file : List ℕ) (c : Candidate) : Type 0 where

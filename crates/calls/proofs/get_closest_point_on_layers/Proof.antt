@@ -22,6 +22,12 @@ all-directions-requires c κs = search (first-point, needs)
 asked-at-requires : tie.Need-asked-at-requires
 asked-at-requires c κs = search (first-point, needs)
 
+slice-aggregate-place-seat : tie.Need-slice-aggregate-place-seat
+slice-aggregate-place-seat c = search (first-point, needs)
+
+slice-aggregate-place-seat-2 : tie.Need-slice-aggregate-place-seat-2
+slice-aggregate-place-seat-2 c = search (first-point, needs)
+
 place-seat-requires : tie.Need-place-seat-requires
 place-seat-requires c κs = search (first-point, needs)
 
@@ -59,6 +65,8 @@ get-closest-point-on-layers-spec =
     enum-told
     all-directions-requires
     asked-at-requires
+    slice-aggregate-place-seat
+    slice-aggregate-place-seat-2
     place-seat-requires
     unplaced-requires
     returns-2

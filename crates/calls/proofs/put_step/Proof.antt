@@ -1,17 +1,23 @@
 -- `put_step` meets its contract. The loop's invariant: the first n candidates are written, and the others are left.
+use mathlib.Core.Path.{_≡_}
 use lib.ListN.{length}
 use borrow.Author.Needs.{needs}
 use Rattle.walking.specs.Sees.{seenBy}
+use Rattle.walking.specs.Lists.{WalkReady}
 use Rattle.walking.specs.Walk.{leftOf}
 use Rattle.calls.proofs.EntryLoop.{Putting, putting}
 use Rattle.calls.proofs.put_step.Statement.{statement}
 use Rattle.calls.proofs.put_step.Tie as tie
 
 abbrev Inv-candidates : tie.InvT-candidates
-Inv-candidates file blocked table seat s out₀ n₀ next₀ out n next = Putting file blocked seat s out₀ out n next
+Inv-candidates file blocked table seat s out₀ kept near₀ n₀ next₀ out near n next =
+    (length near ≡ 4096) × (WalkReady file blocked table seat kept × Putting file blocked seat s out₀ out n next)
 
 abbrev μ-candidates : tie.MeasureT-candidates
-μ-candidates file blocked table seat s out₀ n₀ next₀ out n next = length (leftOf (seenBy file blocked seat) next)
+μ-candidates file blocked table seat s out₀ kept near₀ n₀ next₀ out near n next = length (leftOf (seenBy file blocked seat) next)
+
+slice-aggregate-first : tie.Need-slice-aggregate-first Inv-candidates μ-candidates
+slice-aggregate-first c = search (putting, needs)
 
 first-requires : tie.Need-first-requires Inv-candidates μ-candidates
 first-requires c κs = search (putting, needs)
@@ -43,6 +49,9 @@ put-candidate-requires c κs = search (putting, needs)
 add-n : tie.Need-add-n Inv-candidates μ-candidates
 add-n c = search (putting, needs)
 
+slice-aggregate-after : tie.Need-slice-aggregate-after Inv-candidates μ-candidates
+slice-aggregate-after c = search (putting, needs)
+
 after-requires : tie.Need-after-requires Inv-candidates μ-candidates
 after-requires c κs = search (putting, needs)
 
@@ -58,6 +67,7 @@ put-step-spec =
     (tie.spec
     Inv-candidates
     μ-candidates
+    slice-aggregate-first
     first-requires
     candidates-holds
     enum-told
@@ -68,6 +78,7 @@ put-step-spec =
     packed-requires
     put-candidate-requires
     add-n
+    slice-aggregate-after
     after-requires
     candidates-less
     candidates-again)

@@ -17,7 +17,7 @@ mul-put-front : tie.Need-mul-put-front
 mul-put-front c = search (staying, needs)
 
 put-front-requires : tie.Need-put-front-requires
-put-front-requires c κs = search (staying, needs)
+put-front-requires c κs = (search (staying, needs), search (staying, needs))
 
 clear-requires : tie.Need-clear-requires
 clear-requires c κs = search (staying, needs)

@@ -10,6 +10,12 @@ put-labels-requires c κs = search (sheet-putting, needs)
 all-directions-requires : tie.Need-all-directions-requires
 all-directions-requires c κs = search (sheet-putting, needs)
 
+slice-aggregate-put-counts : tie.Need-slice-aggregate-put-counts
+slice-aggregate-put-counts c = search (sheet-putting, needs)
+
+slice-aggregate-put-counts-2 : tie.Need-slice-aggregate-put-counts-2
+slice-aggregate-put-counts-2 c = search (sheet-putting, needs)
+
 put-counts-requires : tie.Need-put-counts-requires
 put-counts-requires c κs = search (sheet-putting, needs)
 
@@ -34,6 +40,8 @@ put-sheet-spec =
     (tie.spec
     put-labels-requires
     all-directions-requires
+    slice-aggregate-put-counts
+    slice-aggregate-put-counts-2
     put-counts-requires
     clear-requires
     same-length

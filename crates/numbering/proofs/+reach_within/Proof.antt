@@ -12,26 +12,26 @@ use Rattle.numbering.proofs.Midpoints.{Tried, halves}
 use Rattle.numbering.proofs.+reach_within.{statement}
 use Rattle.numbering.proofs.+reach_within.Tie.{close}
 
-abbrev μ-reach-within : Measures 3 reach-within-kinds.ps ℕ
+abbrev μ-reach-within : Measures 4 reach-within-kinds.ps ℕ
 μ-reach-within κs a = a .1 .1 .1 .1 .1 .1 .0
 
-abbrev reach-within-at : ℕ → In 3 reach-within-kinds.ps
+abbrev reach-within-at : ℕ → In 4 reach-within-kinds.ps
 reach-within-at t =
-    and 3 reach-within-kinds.ps (is 3 reach-within-kinds.ps μ-reach-within t) reach-within.Pre
+    and 4 reach-within-kinds.ps (is 4 reach-within-kinds.ps μ-reach-within t) reach-within.Pre
 
-abbrev reach-within-below : ℕ → In 3 reach-within-kinds.ps
+abbrev reach-within-below : ℕ → In 4 reach-within-kinds.ps
 reach-within-below t =
     and
-    3
+    4
     reach-within-kinds.ps
-    (falls 3 reach-within-kinds.ps _<_ μ-reach-within t)
+    (falls 4 reach-within-kinds.ps _<_ μ-reach-within t)
     reach-within.Pre
 
 abbrev reach-within-Inv-midpoints : reach-within-lts.InvT-midpoints
-reach-within-Inv-midpoints file blocked table seat s count k a b m₀ m = Tried file blocked seat s k a b m
+reach-within-Inv-midpoints file blocked table seat s count k a b kept m₀ m = Tried file blocked seat s k a b m
 
 abbrev reach-within-μ-midpoints : reach-within-lts.MeasureT-midpoints
-reach-within-μ-midpoints file blocked table seat s count k a b m₀ m = count - m
+reach-within-μ-midpoints file blocked table seat s count k a b kept m₀ m = count - m
 
 -- what the calls of the body ask and promise, its own below t among them
 abbrev reach-within-claims : ℕ → reach-within-lts.Claims

@@ -6,10 +6,10 @@ use Rattle.numbering.proofs.count_by_midpoints.Statement.{statement}
 use Rattle.numbering.proofs.count_by_midpoints.Tie as tie
 
 abbrev Inv-numbers : tie.InvT-numbers
-Inv-numbers file blocked table seat s count k stay₀ j₀ stay j = Staying file blocked seat s stay j
+Inv-numbers file blocked table seat s count kept k stay₀ j₀ stay j = Staying file blocked seat s stay j
 
 abbrev μ-numbers : tie.MeasureT-numbers
-μ-numbers file blocked table seat s count k stay₀ j₀ stay j = count - j
+μ-numbers file blocked table seat s count kept k stay₀ j₀ stay j = count - j
 
 doublings-requires : tie.Need-doublings-requires Inv-numbers μ-numbers
 doublings-requires c κs = search (counting, needs)

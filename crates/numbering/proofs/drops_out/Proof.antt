@@ -6,10 +6,10 @@ use Rattle.numbering.proofs.drops_out.Statement.{statement}
 use Rattle.numbering.proofs.drops_out.Tie as tie
 
 abbrev Inv-earlier : tie.InvT-earlier
-Inv-earlier file blocked table seat s count k j b i₀ i = Unreached file blocked seat s j i
+Inv-earlier file blocked table seat s count k j kept b i₀ i = Unreached file blocked seat s j i
 
 abbrev μ-earlier : tie.MeasureT-earlier
-μ-earlier file blocked table seat s count k j b i₀ i = j - i
+μ-earlier file blocked table seat s count k j kept b i₀ i = j - i
 
 number-at-requires : tie.Need-number-at-requires Inv-earlier μ-earlier
 number-at-requires c κs = search (earlier, needs)

@@ -1,17 +1,20 @@
 -- `take_step` meets its contract. The loop's invariant: what the candidates of the step come to is what those that are left come to, after the tally so far.
+use mathlib.Core.Path.{_≡_}
 use lib.ListN.{length}
 use borrow.Author.Needs.{needs}
 use Rattle.walking.specs.Sees.{seenBy}
+use Rattle.walking.specs.Lists.{WalkReady}
 use Rattle.walking.specs.Walk.{leftOf}
 use Rattle.placing.proofs.CandidateLoop.{Taking, taking}
 use Rattle.placing.proofs.take_step.Statement.{statement}
 use Rattle.placing.proofs.take_step.Tie as tie
 
 abbrev Inv-candidates : tie.InvT-candidates
-Inv-candidates file blocked table seat s tried wish tally₀ next₀ tally next = Taking file blocked seat s tried tally next
+Inv-candidates file blocked table seat s tried kept near₀ wish tally₀ next₀ near tally next =
+    (length near ≡ length near₀) × (WalkReady file blocked table seat kept × Taking file blocked seat s tried tally next)
 
 abbrev μ-candidates : tie.MeasureT-candidates
-μ-candidates file blocked table seat s tried wish tally₀ next₀ tally next = length (leftOf (seenBy file blocked seat) next)
+μ-candidates file blocked table seat s tried kept near₀ wish tally₀ next₀ near tally next = length (leftOf (seenBy file blocked seat) next)
 
 first-requires : tie.Need-first-requires Inv-candidates μ-candidates
 first-requires c κs = search (taking, needs)
@@ -22,8 +25,11 @@ candidates-holds c = search (taking, needs)
 enum-known-next : tie.Need-enum-known-next Inv-candidates μ-candidates
 enum-known-next c = search (taking, needs)
 
-add-t17 : tie.Need-add-t17 Inv-candidates μ-candidates
-add-t17 c = search (taking, needs)
+add-t21 : tie.Need-add-t21 Inv-candidates μ-candidates
+add-t21 c = search (taking, needs)
+
+same-length : tie.Need-same-length Inv-candidates μ-candidates
+same-length c = search (taking, needs)
 
 returns : tie.Need-returns Inv-candidates μ-candidates
 returns c = search (taking, needs)
@@ -58,7 +64,8 @@ take-step-spec =
     first-requires
     candidates-holds
     enum-known-next
-    add-t17
+    add-t21
+    same-length
     returns
     enum-known-next-2
     place-of-requires

@@ -1,13 +1,13 @@
--- `next_hit` meets its contract. The loop's invariant: the hit is that of the polygons from j on.
+-- `next_hit` meets its contract. The loop's invariant: no polygon from number k on and before j passes.
 use Prim.Native.Nat.{_-_}
 use borrow.Author.Needs.{needs}
 use Rattle.ship.specs.Decode.{deckAt}
-use Rattle.search.proofs.TurnLoop.{PolygonsLeft, nexts}
+use Rattle.search.proofs.PolygonLoop.{PolygonsLeft, nexts}
 use Rattle.search.proofs.next_hit.Statement.{statement}
 use Rattle.search.proofs.next_hit.Tie as tie
 
 abbrev Inv-polygons : tie.InvT-polygons
-Inv-polygons file b q i k polygons j₀ j = PolygonsLeft (deckAt file b) q i polygons k j
+Inv-polygons file b q i k polygons j₀ j = PolygonsLeft (deckAt file b) q polygons k j
 
 abbrev μ-polygons : tie.MeasureT-polygons
 μ-polygons file b q i k polygons j₀ j = polygons - j

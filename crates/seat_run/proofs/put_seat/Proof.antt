@@ -16,10 +16,23 @@ put-record-requires c κs = search (seat-put, needs)
 same-length : tie.Need-same-length
 same-length c = search (seat-put, needs)
 
+same-length-2 : tie.Need-same-length-2
+same-length-2 c = search (seat-put, needs)
+
+same-length-3 : tie.Need-same-length-3
+same-length-3 c = search (seat-put, needs)
+
 returns : tie.Need-returns
 returns c = search (seat-put, needs)
 
 pub put-seat-spec : {M : Type 1} → statement M
 put-seat-spec =
     tie.close
-    (tie.spec seat-at-requires place-seat-requires put-record-requires same-length returns)
+    (tie.spec
+    seat-at-requires
+    place-seat-requires
+    put-record-requires
+    same-length
+    same-length-2
+    same-length-3
+    returns)

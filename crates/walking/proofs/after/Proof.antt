@@ -22,6 +22,9 @@ turns-from-requires c κs = search (afters, needs)
 returns : tie.Need-returns
 returns c = search (afters, needs)
 
+same-length : tie.Need-same-length
+same-length c = search (afters, needs)
+
 returns-2 : tie.Need-returns-2
 returns-2 c = search (afters, needs)
 
@@ -35,4 +38,5 @@ after-spec =
     add-turns-from
     turns-from-requires
     returns
+    same-length
     returns-2)

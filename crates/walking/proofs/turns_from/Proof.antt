@@ -1,15 +1,18 @@
 -- `turns_from` meets its contract. The loop's invariant: the decks below e gave no candidate.
 use Prim.Native.Nat.{_-_, _≤_}
+use mathlib.Core.Path.{_≡_}
+use lib.ListN.{length}
 use borrow.Author.Needs.{needs}
 use Rattle.walking.proofs.Walks.{Turning, turning}
 use Rattle.walking.proofs.turns_from.Statement.{statement}
 use Rattle.walking.proofs.turns_from.Tie as tie
 
 abbrev Inv-decks : tie.InvT-decks
-Inv-decks file blocked table seat s d decks choice tried₀ e₀ tried e = (e ≤ decks) × Turning file blocked seat s d tried e
+Inv-decks file blocked table seat s d kept near₀ decks choice tried₀ e₀ near tried e =
+    (e ≤ decks) × ((length near ≡ length near₀) × Turning file blocked seat s d tried e)
 
 abbrev μ-decks : tie.MeasureT-decks
-μ-decks file blocked table seat s d decks choice tried₀ e₀ tried e = decks - e
+μ-decks file blocked table seat s d kept near₀ decks choice tried₀ e₀ near tried e = decks - e
 
 deck-count-requires : tie.Need-deck-count-requires Inv-decks μ-decks
 deck-count-requires c κs = search (turning, needs)
@@ -35,6 +38,9 @@ add-tried c = search (turning, needs)
 enum-known-hit : tie.Need-enum-known-hit Inv-decks μ-decks
 enum-known-hit c = search (turning, needs)
 
+same-length : tie.Need-same-length Inv-decks μ-decks
+same-length c = search (turning, needs)
+
 returns : tie.Need-returns Inv-decks μ-decks
 returns c = search (turning, needs)
 
@@ -45,13 +51,16 @@ decks-less : tie.Need-decks-less Inv-decks μ-decks
 decks-less c = search (turning, needs)
 
 decks-again : tie.Need-decks-again Inv-decks μ-decks
-decks-again c = search (turning, needs)
+decks-again c = (search needs, (search needs, search (turning, needs)))
 
 decks-less-2 : tie.Need-decks-less-2 Inv-decks μ-decks
 decks-less-2 c = search (turning, needs)
 
 decks-again-2 : tie.Need-decks-again-2 Inv-decks μ-decks
 decks-again-2 c = search (turning, needs)
+
+same-length-2 : tie.Need-same-length-2 Inv-decks μ-decks
+same-length-2 c = search (turning, needs)
 
 returns-2 : tie.Need-returns-2 Inv-decks μ-decks
 returns-2 c = search (turning, needs)
@@ -70,10 +79,12 @@ turns-from-spec =
     tried-requires
     add-tried
     enum-known-hit
+    same-length
     returns
     enum-told
     decks-less
     decks-again
     decks-less-2
     decks-again-2
+    same-length-2
     returns-2)

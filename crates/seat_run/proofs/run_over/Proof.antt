@@ -1,8 +1,8 @@
--- `run` meets its contract.
+-- `run_over` meets its contract.
 use borrow.Author.Needs.{needs}
 use Rattle.seat_run.proofs.RunLoop.{running}
-use Rattle.seat_run.proofs.run.Statement.{statement}
-use Rattle.seat_run.proofs.run.Tie as tie
+use Rattle.seat_run.proofs.run_over.Statement.{statement}
+use Rattle.seat_run.proofs.run_over.Tie as tie
 
 run-check-requires : tie.Need-run-check-requires
 run-check-requires c κs = search (running, needs)
@@ -31,11 +31,17 @@ put-records-requires c κs = search (running, needs)
 same-length : tie.Need-same-length
 same-length c = search (running, needs)
 
+same-length-2 : tie.Need-same-length-2
+same-length-2 c = search (running, needs)
+
+same-length-3 : tie.Need-same-length-3
+same-length-3 c = search (running, needs)
+
 returns-3 : tie.Need-returns-3
 returns-3 c = (search (running, needs), (search (running, needs), (search (running, needs), search (running, needs))))
 
-pub run-spec : {M : Type 1} → statement M
-run-spec =
+pub run-over-spec : {M : Type 1} → statement M
+run-over-spec =
     tie.close
     (tie.spec
     run-check-requires
@@ -47,4 +53,6 @@ run-spec =
     all-directions-requires
     put-records-requires
     same-length
+    same-length-2
+    same-length-3
     returns-3)

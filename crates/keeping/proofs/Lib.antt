@@ -1,0 +1,4 @@
+pub mod SoughtLaws
+pub mod Looking
+pub mod ListLaws
+pub mod Growing

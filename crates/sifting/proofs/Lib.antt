@@ -1,0 +1,3 @@
+pub mod EdgeLoop
+pub mod SiftLoop
+pub mod Turns
