@@ -23,7 +23,7 @@ use Rattle.ship.specs.Layout.{stepsIn}
 use Rattle.ship.specs.Decode.{decode}
 use Rattle.ship.specs.Packed.{packedOf}
 use Rattle.ship.specs.Questions.{firstNo}
-use Rattle.ship.proofs.Facts.{decks-few, steps-range}
+use Rattle.ship.proofs.Facts.{decks-few}
 use Rattle.ship.proofs.ModelFacts.{decks-length}
 use Rattle.survey.specs.declared.Seat.{Seat}
 use Rattle.survey.specs.Wishes.{isBlocked}

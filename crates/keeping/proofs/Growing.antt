@@ -1,8 +1,8 @@
 -- A list that is made of another by going over what that one looks at: so far it has n numbers, and its `rest` is what comes next. It grows by a polygon
 -- that is passed over, since it does not pass, or by one that is kept.
-use Prim.Native.Nat.{ℕ, _+_, _-_, _≤_, _<_}
+use Prim.Native.Nat.{ℕ, _+_, _≤_, _<_}
 use native.Mathlib.Omega.{arith}
-use mathlib.Core.Path.{_≡_, refl, sym, ap, _∙_, subst}
+use mathlib.Core.Path.{_≡_, refl, ap, _∙_}
 use mathlib.Core.Bool.{Bool, true, false}
 use mathlib.Core.List.{List}
 use lib.Dec.{ltb}
@@ -14,7 +14,7 @@ use Rattle.ship.specs.Model.{Deck}
 use Rattle.search.specs.OnDeck.{passesAt}
 use Rattle.keeping.specs.declared.Kept.{Kept}
 use Rattle.keeping.specs.Kept.{numberAt, soughtAt, soughtCount, ListIn, OthersFail, KeptAt}
-use Rattle.keeping.proofs.SoughtLaws.{sought-end, sought-below, sought-rises, between-fails}
+use Rattle.keeping.proofs.SoughtLaws.{sought-end, sought-below, sought-rises, earlier-fails, later-fails}
 
 abbrev pub listOf : ℕ → ℕ → ℕ → Kept
 listOf start count rest = record { start = start; count = count; rest = rest }
@@ -112,21 +112,8 @@ module _ {n : ℕ} {from : List ℕ} {source : Kept} (s : ListIn n from source) 
 
 -- ---- the others, at a point where the list that is gone over is kept
 module _ {deck : Deck} {from : List ℕ} {source : Kept} {q : Vec2} (s : KeptAt deck from source q) where
-  -- after number j's and before the next
-  later-fails : (j k : ℕ) → soughtAt from source j < k → k < soughtAt from source (j + 1) → passesAt deck q k ≡ false
-  later-fails j k after before = between-fails (s .list) (j + 1) k earlier before s
-    where
-      earlier : (i : ℕ) → i < j + 1 → soughtAt from source i < k
-      earlier i h = go (ltb i j) refl
-        where
-          go : (t : Bool) → ltb i j ≡ t → soughtAt from source i < k
-          go true e = omega (arith, sought-rises (s .list) i j (ltb-true i j e))
-          go false e =
-              let is : i ≡ j = omega (arith, ltb-false i j e) in
-              rw is after
-
   pub others-none : (array : List ℕ) (at : ℕ) → OthersFail deck array (listOf at 0 (soughtAt from source 0)) q
-  others-none array at k h absent = between-fails (s .list) 0 k (λ i l. let none : ⊥ = omega arith in absurd none) h s
+  others-none array at k h absent = earlier-fails s k h
 
   module _ (array : List ℕ) (at m j : ℕ) (o : OthersFail deck array (listOf at m (soughtAt from source j)) q) where
     pub others-skip : passesAt deck q (soughtAt from source j) ≡ false → OthersFail deck array (listOf at m (soughtAt from source (j + 1))) q
@@ -137,7 +124,7 @@ module _ {deck : Deck} {from : List ℕ} {source : Kept} {q : Vec2} (s : KeptAt 
 
         go : (t : Bool) → ltb k x ≡ t → (u : Bool) → ltb x k ≡ u → passesAt deck q k ≡ false
         go true e u f = o k (ltb-true k x e) absent
-        go false e true f = later-fails j k (ltb-true x k f) h
+        go false e true f = later-fails s j k (ltb-true x k f) h
         go false e false f =
             let is : x ≡ k = omega (arith, ltb-false k x e, ltb-false x k f) in
             rw (← is) fails
@@ -154,7 +141,7 @@ module _ {deck : Deck} {from : List ℕ} {source : Kept} {q : Vec2} (s : KeptAt 
 
         go : (t : Bool) → ltb k x ≡ t → (u : Bool) → ltb x k ≡ u → passesAt deck q k ≡ false
         go true e u f = o k (ltb-true k x e) (λ i b is. absent i (omega arith) (before i b ∙ is))
-        go false e true f = later-fails j k (ltb-true x k f) h
+        go false e true f = later-fails s j k (ltb-true x k f) h
         go false e false f =
             let is : x ≡ k = omega (arith, ltb-false k x e, ltb-false x k f) in
             absurd (absent m (omega arith) (getD-set-same array (at + m) x 0 room ∙ is))

@@ -23,7 +23,7 @@ use Rattle.search.specs.OnDeck.{passesAt, deckTurn, nextHit}
 use Rattle.search.proofs.PolygonLoop.{NonePass, first-is, none-is}
 use Rattle.keeping.specs.declared.Kept.{Kept}
 use Rattle.keeping.specs.Kept.{soughtAt, soughtCount, KeptAt, RingKept}
-use Rattle.keeping.proofs.SoughtLaws.{sought-end, sought-below, sought-rises, between-fails}
+use Rattle.keeping.proofs.SoughtLaws.{sought-end, sought-below, earlier-fails, later-fails}
 
 -- ---- the loop over the polygons of a list: those from `from` on and before number j's do not pass
 pub record Looked (deck : Deck) (array : List ℕ) (kept : Kept) (q : Vec2) (from j : ℕ) : Type 0 where
@@ -31,8 +31,7 @@ pub record Looked (deck : Deck) (array : List ℕ) (kept : Kept) (q : Vec2) (fro
   pub none : NonePass deck q from (soughtAt array kept j)
 
 pub looked-all : {deck : Deck} {array : List ℕ} {kept : Kept} {q : Vec2} (from : ℕ) → KeptAt deck array kept q → Looked deck array kept q from 0
-looked-all from at =
-    record { at = at; none = λ k past below. between-fails (at .list) 0 k (λ i h. let no : ⊥ = omega arith in absurd no) below at }
+looked-all from at = record { at = at; none = λ k past below. earlier-fails at k below }
 
 module _ {deck : Deck} {array : List ℕ} {kept : Kept} {q : Vec2} {from j : ℕ} (m : Looked deck array kept q from j) where
   -- where number j's does not pass, or is one before `from`
@@ -42,21 +41,12 @@ module _ {deck : Deck} {array : List ℕ} {kept : Kept} {q : Vec2} {from j : ℕ
       x : ℕ
       x = soughtAt array kept j
 
-      before : (k : ℕ) → x < k → (i : ℕ) → i < j + 1 → soughtAt array kept i < k
-      before k h i l = go (ltb i j) refl
-        where
-          go : (t : Bool) → ltb i j ≡ t → soughtAt array kept i < k
-          go true e = omega (arith, sought-rises (m .at .list) i j (ltb-true i j e))
-          go false e =
-              let at : i ≡ j = omega (arith, ltb-false i j e) in
-              rw at h
-
       none′ : NonePass deck q from (soughtAt array kept (j + 1))
       none′ k past below = go (ltb k x) refl (ltb x k) refl
         where
           go : (s : Bool) → ltb k x ≡ s → (t : Bool) → ltb x k ≡ t → passesAt deck q k ≡ false
           go true e t f = m .none k past (ltb-true k x e)
-          go false e true f = between-fails (m .at .list) (j + 1) k (before k (ltb-true x k f)) below (m .at)
+          go false e true f = later-fails (m .at) j k (ltb-true x k f) below
           go false e false f =
               let at : x ≡ k = omega (arith, ltb-false k x e, ltb-false x k f) in
               rw (← at) (fails (rw at past))

@@ -1,11 +1,10 @@
 -- The polygons that a kept list has a search look at: they rise, they are there, and each polygon between two of them is one of the others.
 use Prim.Native.Nat.{ℕ, _+_, _-_, _≤_, _<_}
 use native.Mathlib.Omega.{arith}
-use mathlib.Core.Path.{_≡_, refl, sym, _∙_}
+use mathlib.Core.Path.{_≡_, refl, _∙_}
 use mathlib.Core.Bool.{Bool, true, false}
 use mathlib.Core.List.{List}
 use lib.Dec.{ltb}
-use lib.ListN.{length}
 use borrow.Author.Tests.{ltb-true, ltb-false, lt-ltb, le-ltb}
 use Rattle.geometry.specs.declared.Vec2.{Vec2}
 use Rattle.ship.specs.Model.{Deck}
@@ -85,5 +84,22 @@ module _ {n : ℕ} {array : List ℕ} {kept : Kept} (l : ListIn n array kept) wh
                 let under : m < j = omega (arith, sought-past array kept j (ltb-false j (kept .count) f), ltb-false k (kept .rest) e, ltb-false j (kept .count) f) in
                 omega (arith, after m under, sought-past array kept m (omega arith), ltb-false k (kept .rest) e)
 
-    pub between-fails : {deck : Deck} {q : Vec2} → KeptAt deck array kept q → passesAt deck q k ≡ false
+    between-fails : {deck : Deck} {q : Vec2} → KeptAt deck array kept q → passesAt deck q k ≡ false
     between-fails at = at .others k under-rest not-listed
+
+-- ---- where the list is kept: a polygon before the first that is looked at, and one between two of them, does not pass
+module _ {deck : Deck} {array : List ℕ} {kept : Kept} {q : Vec2} (at : KeptAt deck array kept q) where
+  pub earlier-fails : (k : ℕ) → k < soughtAt array kept 0 → passesAt deck q k ≡ false
+  earlier-fails k h = between-fails (at .list) 0 k (λ i l. let none : ⊥ = omega arith in absurd none) h at
+
+  pub later-fails : (j k : ℕ) → soughtAt array kept j < k → k < soughtAt array kept (j + 1) → passesAt deck q k ≡ false
+  later-fails j k after before = between-fails (at .list) (j + 1) k earlier before at
+    where
+      earlier : (i : ℕ) → i < j + 1 → soughtAt array kept i < k
+      earlier i h = go (ltb i j) refl
+        where
+          go : (t : Bool) → ltb i j ≡ t → soughtAt array kept i < k
+          go true e = omega (arith, sought-rises (at .list) i j (ltb-true i j e))
+          go false e =
+              let is : i ≡ j = omega (arith, ltb-false i j e) in
+              rw is after

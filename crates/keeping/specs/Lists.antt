@@ -11,6 +11,10 @@ listSize = 3
 abbrev pub listsSize : ℕ
 listsSize = 768
 
+-- numbers of the array for a step's own list
+abbrev pub nearSize : ℕ
+nearSize = 4096
+
 abbrev pub listAt : List ℕ → ℕ → Kept
 listAt array d =
     record { start = getD array (listSize * d) 0; count = getD array (listSize * d + 1) 0; rest = getD array (listSize * d + 2) 0 }

@@ -38,6 +38,7 @@ fn wide(x: u32) -> usize
     x as usize
 }
 
+// A number is written at its place.
 pub fn put(array: &mut [u32], at: usize, x: usize)
     requires { ⌜ (at < length (now array)) × (x < 2 ^ 32) ⌝ }
     ensures { λ _. ⌜ now (array .exit) ≡ set (now (array .entry)) at x ⌝ }

@@ -19,11 +19,11 @@ use Rattle.survey.specs.declared.Seat.{Seat}
 use Rattle.survey.specs.Search.{candidates, triedIn}
 use Rattle.walking.specs.declared.Next.{Next}
 use Rattle.walking.specs.declared.Next.the-variants.{Reached, Ended}
-use Rattle.walking.specs.Sees.{shownBy, seenBy, FileReady, CandidateIn}
+use Rattle.walking.specs.Sees.{shownBy, seenBy, CandidateIn}
 use Rattle.walking.specs.Lists.{WalkReady}
 use Rattle.walking.specs.Walk.{candidatesAfter, triedAfter, leftOf, leftTried, NextIn, WalkedStep, WalkedAfter}
-use Rattle.walking.proofs.ShownLaws.{candidate-within, few-tried, few-candidates}
-use Rattle.walking.proofs.Reaching.{step-few}
+use Rattle.walking.proofs.ShownLaws.{candidate-within, few-tried, few-candidates, step-few}
+use Rattle.walking.proofs.Walks.{walk-file, walk-passed}
 use Rattle.placing.specs.declared.Best.the-variants.{NoneYet}
 use Rattle.placing.specs.declared.Tally.{Tally}
 use Rattle.placing.specs.Tally.{bestFrom, startOf, takeWith, stepTally, BestWithin, TallyWithin}
@@ -46,9 +46,9 @@ pub taking-all : {file blocked : List ℕ} {table : List ℤ} {seat : Seat} {arr
     → WalkedStep file (seenBy file blocked seat) s next → Taking file blocked seat s tried (startOf tried) next
 taking-all {file} {tried = tried} ready l few w =
     record {
-      passed = ready .search-ready .file-ready .file-passed;
+      passed = walk-passed ready;
       place-within = ready .search-ready .place-within;
-      step-below = step-few file (ready .search-ready .file-ready .file-passed) l;
+      step-below = step-few file (walk-passed ready) l;
       few = few;
       next-in = w .within;
       tried-is = ap (λ (n : ℕ). tried + n) (sym (w .tried-is));
@@ -131,7 +131,4 @@ module _ {file blocked : List ℕ} {seat : Seat} {s tried : ℕ} {tally : Tally}
                 (candidate-within (h .passed) taking-in (h .place-within));
           })
 
-pub taking-passed : {file blocked : List ℕ} {table : List ℤ} {seat : Seat} {array : List ℕ} → WalkReady file blocked table seat array → FileReady file table
-taking-passed ready = ready .search-ready .file-ready
-
-pub ruleset taking = (taking-passed, taking-all, ended-fits, taking-ended, ended-within, taking-in, tried-room, count-room, taking-less, taking-more)
+pub ruleset taking = (walk-file, taking-all, ended-fits, taking-ended, ended-within, taking-in, tried-room, count-room, taking-less, taking-more)

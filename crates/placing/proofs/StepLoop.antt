@@ -4,16 +4,13 @@ use mathlib.Core.Path.{_≡_, refl, sym, ap, _∙_, subst}
 use mathlib.Core.List.{List, [], _∷_}
 use native.Mathlib.Omega.{arith}
 use native.Mathlib.Numerals.{add-one}
-use lib.IntN.{ℤ}
 use lib.ListN.{length}
 use Rattle.geometry.specs.declared.Vec2.{Vec2}
 use Rattle.geometry.specs.declared.Height.{Height}
 use Rattle.records.specs.declared.SeatRecord.{SeatRecord}
 use Rattle.records.specs.Record.{unplacedRecord}
 use Rattle.hits.specs.declared.Candidate.{Candidate}
-use Rattle.answers.specs.declared.Check.the-variants.{Passed}
 use Rattle.ship.specs.Layout.{stepsIn}
-use Rattle.ship.specs.Questions.{firstNo}
 use Rattle.ship.specs.Decode.{decode}
 use Rattle.ship.proofs.ModelFacts.{steps-in}
 use Rattle.survey.specs.declared.Seat.{Seat}
@@ -22,7 +19,7 @@ use Rattle.survey.specs.Record.{recordAtPlace}
 use Rattle.survey.specs.Search.{candidates, triedIn, triedBefore, bestOf, firstStep, seatRecord}
 use Rattle.survey.proofs.Loops.{first-step-yes, first-step-no, first-step-none}
 use Rattle.walking.specs.Sees.{seenBy, CandidateWithin}
-use Rattle.walking.specs.Lists.{WalkReady}
+use Rattle.walking.proofs.Walks.{walk-passed}
 use Rattle.placing.specs.declared.Best.the-variants.{NoneYet, Chosen}
 use Rattle.placing.specs.declared.Tally.{Tally}
 use Rattle.placing.specs.Tally.{bestFrom, stepTally, BestWithin, TallyWithin, CountsWithin}
@@ -53,10 +50,6 @@ module _ {m : ℕ} {t : Tally} (w : TallyWithin m t) where
 -- ---- what is asked for the step
 pub step-in : (file : List ℕ) {n s : ℕ} → n ≡ decode file .steps → s < n → s < stepsIn file
 step-in file all l = omega (arith, steps-in file)
-
-module _ {file blocked : List ℕ} {table : List ℤ} {seat : Seat} {array : List ℕ} (ready : WalkReady file blocked table seat array) where
-  pub file-passed : firstNo file ≡ Passed
-  file-passed = ready .search-ready .file-ready .file-passed
 
 module _ {file blocked : List ℕ} {seat : Seat} {tried s n : ℕ} (h : Searching file blocked seat tried s) (all : n ≡ decode file .steps) where
   pub searching-few : s ≤ n → n ≤ 16 → tried ≤ 618496
@@ -119,4 +112,4 @@ module _ {file blocked : List ℕ} {seat : Seat} {tried s n : ℕ} (h : Searchin
             let same-height : g ≡ v .shown .height (bestOf v first rest) = cc in
             made ∙ rw (h .same, first-step-yes v s (decode file .steps) first rest (omega arith) e, same-c, same-place, same-height, tried-next, count-next, e)
 
-pub ruleset searching = (file-passed, step-in, searching-all, best-placed, counts-within, searching-few, searching-none, searching-more, searching-found)
+pub ruleset searching = (walk-passed, step-in, searching-all, best-placed, counts-within, searching-few, searching-none, searching-more, searching-found)

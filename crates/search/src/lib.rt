@@ -1,6 +1,6 @@
 // The polygon test and heights over a ship file in place (document 01, sections 3 and 6). Nothing here knows of seats or records.
 ghost use mathlib.Core.Path.{_≡_};
-ghost use Prim.Native.Nat.{_+_, _*_, _<_};
+ghost use Prim.Native.Nat.{_<_};
 ghost use lib.ListN.{length, getD};
 ghost use Rattle.geometry.specs.Heights.{meanHeight};
 ghost use Rattle.ship.specs.Decode.{deckAt};

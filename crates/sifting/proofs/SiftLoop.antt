@@ -22,7 +22,7 @@ use Rattle.keeping.specs.declared.Kept.{Kept}
 use Rattle.keeping.specs.Kept.{soughtAt, soughtCount, KeptAt}
 use Rattle.keeping.proofs.SoughtLaws.{sought-end, sought-below}
 use Rattle.keeping.proofs.Growing.{listOf, list-none, list-skips, list-keeps, others-none, others-skip, others-keep}
-use Rattle.sifting.specs.Sifted.{mayPassAt, isFull, KeptOver, SiftReady, SiftedInto}
+use Rattle.sifting.specs.Sifted.{mayPassAt, many, isFull, KeptOver, SiftReady, SiftedInto}
 use Rattle.sifting.proofs.EdgeLoop.{sifted-out}
 
 -- ---- `is_full`
@@ -32,20 +32,20 @@ module _ (count room looked : ℕ) where
   full-no-room h = rw (le-leb room count h)
 
   module _ (free : count < room) where
-    pub full-few : count < 128 → false ≡ isFull count room looked
+    pub full-few : count < many → false ≡ isFull count room looked
     unfolding isFull
-    full-few h = rw (lt-leb room count free, lt-leb 128 count h)
+    full-few h = rw (lt-leb room count free, lt-leb many count h)
 
-    pub full-asked : 128 ≤ count → ltb looked (2 * count) ≡ isFull count room looked
+    pub full-asked : many ≤ count → ltb looked (2 * count) ≡ isFull count room looked
     unfolding isFull
-    full-asked h = rw (lt-leb room count free, le-leb 128 count h)
+    full-asked h = rw (lt-leb room count free, le-leb many count h)
 
   -- a list that is not full has room
   pub room-left : isFull count room looked ≡ false → count < room
   unfolding isFull
   room-left e = go (leb room count) refl e
     where
-      go : (t : Bool) → leb room count ≡ t → (t || (leb 128 count && ltb looked (2 * count))) ≡ false → count < room
+      go : (t : Bool) → leb room count ≡ t → (t || (leb many count && ltb looked (2 * count))) ≡ false → count < room
       go true f e′ = absurd (true≢false e′)
       go false f e′ = leb-false room count f
 

@@ -1,5 +1,5 @@
 -- `sift_deck` and `turn`: a list of every polygon, and a list that serves the samples of a step.
-use Prim.Native.Nat.{ℕ, _≤_, _<_}
+use Prim.Native.Nat.{ℕ, _≤_}
 use native.Mathlib.Omega.{arith}
 use mathlib.Core.Path.{_≡_}
 use mathlib.Core.List.{List}

@@ -22,9 +22,13 @@ use Rattle.keeping.specs.Kept.{ListIn, OthersFail}
 unfoldable pub mayPassAt : Deck → BoundingBox → ℕ → Bool
 mayPassAt deck bounds k = mayPass bounds (polygonPoints deck k)
 
--- a list of `count` numbers takes no more: it has no room, or it has 128 and more than half of the polygons that were looked at
+-- from so many numbers on a list is held against what was looked at
+abbrev pub many : ℕ
+many = 128
+
+-- a list of `count` numbers takes no more: it has no room, or it has many, and more than half of the polygons that were looked at
 unfoldable pub isFull : ℕ → ℕ → ℕ → Bool
-isFull count room looked = leb room count || (leb 128 count && ltb looked (2 * count))
+isFull count room looked = leb room count || (leb many count && ltb looked (2 * count))
 
 -- every polygon that is not in the list passes at no point of this box
 pub record KeptOver (deck : Deck) (bounds : BoundingBox) (array : List ℕ) (kept : Kept) : Type 0 where

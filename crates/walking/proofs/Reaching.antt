@@ -1,10 +1,9 @@
 -- Every sample of a search lies in the box that its lists are kept over: so a list serves each step, and one sifted with a step's own box serves that step.
-use Prim.Native.Nat.{ℕ, _+_, _-_, _≤_, _<_}
+use Prim.Native.Nat.{ℕ, _-_, _≤_, _<_}
 use native.Mathlib.Omega.{arith}
-use mathlib.Core.Path.{_≡_, refl, sym, ap, _∙_, subst}
+use mathlib.Core.Path.{_≡_, refl}
 use mathlib.Core.List.{List}
 use lib.IntN.{ℤ}
-use lib.ListN.{length}
 use lib.Ieee.{Float, binary32}
 use lib.Ieee.Bits.{ofBits-fits}
 use Rattle.geometry.specs.declared.Vec2.{Vec2}
@@ -34,9 +33,9 @@ use Rattle.sifting.specs.Sifted.{KeptOver, Around}
 use Rattle.sifting.proofs.SiftLoop.{over-at}
 use Rattle.survey.specs.Search.{turn}
 use Rattle.search.specs.OnDeck.{deckTurn}
-use Rattle.walking.specs.Sees.{sampleOn, shownBy}
-use Rattle.walking.specs.Lists.{searchBox, TurnReady, PassingReady}
-use Rattle.walking.proofs.ShownLaws.{deck-is, turn-shown}
+use Rattle.walking.specs.Sees.{sampleOn, shownBy, CandidateIn}
+use Rattle.walking.specs.Lists.{searchBox, TurnReady}
+use Rattle.walking.proofs.ShownLaws.{deck-is, turn-shown, step-few}
 
 -- ---- the reach, and a point in a deck's coordinates
 module _ (file : List ℕ) (passed : firstNo file ≡ Passed) where
@@ -48,9 +47,6 @@ module _ (file : List ℕ) (passed : firstNo file ≡ Passed) where
         from-zero = record { holds = reach-from-zero file passed };
         held = ofBits-fits binary32 (u32At file reachPosition);
       }
-
-  pub step-few : {s : ℕ} → s < stepsIn file → s < 16
-  step-few h = omega (arith, steps-range file passed .1)
 
 pub around-within : {p o : Vec2} → PointWithin 1000000 p → PointWithin 1000000 o → PointWithin 3000000 (subOf p o)
 unfolding held
@@ -114,19 +110,13 @@ module _ {file : List ℕ} {table : List ℤ} {p : Vec2} {d s : ℕ} {array : Li
 pub ruleset turns = (turn-room, turn-deck, turn-around, turn-kept)
 
 -- ---- `next_passing`
-module _ {file : List ℕ} {table : List ℤ} {p : Vec2} {c : Candidate} {array : List ℕ} (ready : PassingReady file table p c array) where
-  pub passing-room : ListsRoom array
-  passing-room = ready .sifted .room
+pub passing-kept : {file : List ℕ} {table : List ℤ} {p : Vec2} {c : Candidate} {array : List ℕ} {b : Blocks} {q : Vec2} {list : Kept}
+    → TurnReady file table p (c .deck) (c .step) array → CandidateIn file c → b ≡ blocksAt file (c .deck) → q ≡ sampleOn (decode file) p c → list ≡ listAt array (c .deck)
+    → KeptAt (deckAt file b) array list q
+unfolding sampleOn
+passing-kept {file} {c = c} ready on is at l =
+    let turn = ready .turn in
+    rw (l, at, is, deck-is file (turn .deck) refl)
+    (over-at (ready .sifted .lists (c .deck) (turn .deck)) (sample-in-search file (ready .file-ready .file-passed) (turn .deck) (ready .place-within) (turn .step) (c .sample)))
 
-  pub passing-number : c .deck < 256
-  passing-number = omega (arith, ready .candidate .turn .deck, decks-few file (ready .file-ready .file-passed))
-
-  pub passing-kept : {b : Blocks} {q : Vec2} {list : Kept} → b ≡ blocksAt file (c .deck) → q ≡ sampleOn (decode file) p c → list ≡ listAt array (c .deck)
-      → KeptAt (deckAt file b) array list q
-  unfolding sampleOn
-  passing-kept is at l =
-      let turn = ready .candidate .turn in
-      rw (l, at, is, deck-is file (turn .deck) refl)
-      (over-at (ready .sifted .lists (c .deck) (turn .deck)) (sample-in-search file (ready .file-ready .file-passed) (turn .deck) (ready .place-within) (turn .step) (c .sample)))
-
-pub ruleset nexts = (passing-room, passing-number, passing-kept)
+pub ruleset nexts = (turn-room, turn-deck, passing-kept)

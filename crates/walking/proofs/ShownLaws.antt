@@ -23,7 +23,7 @@ use Rattle.hits.specs.declared.Candidate.{Candidate}
 use Rattle.hits.specs.declared.Hit.{Hit}
 use Rattle.hits.proofs.HitLoops.{polygon-hit-same}
 use Rattle.ship.specs.declared.Blocks.{Blocks}
-use Rattle.ship.specs.Layout.{decksIn, blocksAt}
+use Rattle.ship.specs.Layout.{decksIn, stepsIn, blocksAt}
 use Rattle.ship.specs.Model.{Deck, noDeck, deckOf}
 use Rattle.ship.specs.Decode.{deckAt, decode}
 use Rattle.ship.specs.Questions.{firstNo, DeckOfPassed}
@@ -85,8 +85,12 @@ module _ (file : List ℕ) (p : Vec2) (c : Candidate) {b : Blocks} (on : Candida
   next-shown {q} at e =
       e ∙ rw (at, ← here) (polygon-hit-same _ _ (c .sample) (λ k. refl) (c .polygon + 1) (length (deckOf (decode file) (c .deck) .polygons) - (c .polygon + 1)))
 
+-- a step of a passed file is one of sixteen
+pub step-few : (file : List ℕ) → firstNo file ≡ Passed → {s : ℕ} → s < stepsIn file → s < 16
+step-few file passed h = omega (arith, steps-range file passed .1)
+
 pub step-small : {file : List ℕ} {table : List ℤ} {c : Candidate} → FileReady file table → CandidateIn file c → c .step < 16
-step-small {file} ready on = omega (arith, on .turn .step, steps-range file (ready .file-passed) .1)
+step-small {file} ready on = step-few file (ready .file-passed) (on .turn .step)
 
 pub ruleset shows = (step-small, turn-shown, sample-shown, polygon-there, place-shown, height-shown, next-fits, next-shown)
 
@@ -114,22 +118,19 @@ module _ {file : List ℕ} {c : Candidate} (passed : firstNo file ≡ Passed) (o
   here-is : deckOf (decode file) (c .deck) ≡ deckAt file (blocksAt file (c .deck))
   here-is = deck-is file (on .turn .deck) refl
 
-  step-few : c .step < 16
-  step-few = omega (arith, on .turn .step, steps-range file passed .1)
-
   place-small : PointWithin 3015000 (shownBy file p .place c)
   unfolding shownFrom placeOf sampleOn
   place-small =
-      place-within p (deckOf (decode file) (c .deck) .offset) (decode file .reach) (c .step) (c .sample) step-few
+      place-within p (deckOf (decode file) (c .deck) .offset) (decode file .reach) (c .step) (c .sample) (step-few file passed (on .turn .step))
       (decode-reach file passed) within (rw here-is (offset-within deck))
 
   pub candidate-within : CandidateWithin c (shownBy file p .place c) (shownBy file p .height c)
   unfolding shownFrom
   candidate-within =
       record {
-        step = step-few;
+        step = step-few file passed (on .turn .step);
         deck = omega (arith, on .turn .deck, decks-few file passed);
-        sample = omega (arith, step-few, on .sample);
+        sample = omega (arith, step-few file passed (on .turn .step), on .sample);
         polygon = omega (arith, on .polygon, sound deck .few-polygons);
         place-within = place-small;
         height-within = rw here-is (height-within deck (c .polygon) (shownBy file p .place c) place-small);

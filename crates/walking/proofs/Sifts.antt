@@ -14,12 +14,11 @@ use Rattle.geometry.specs.declared.Vec2.{Vec2}
 use Rattle.geometry.specs.Plane.{subOf}
 use Rattle.boxes.specs.declared.BoundingBox.{BoundingBox}
 use Rattle.boxes.specs.StepBox.{stepBox}
-use Rattle.answers.specs.declared.Check.the-variants.{Passed}
 use Rattle.ship.specs.declared.Blocks.{Blocks}
-use Rattle.ship.specs.Layout.{decksIn, stepsIn, blocksAt}
+use Rattle.ship.specs.Layout.{decksIn, blocksAt}
 use Rattle.ship.specs.Model.{Deck}
 use Rattle.ship.specs.Decode.{deckAt, decode}
-use Rattle.ship.specs.Questions.{firstNo, DeckOfPassed}
+use Rattle.ship.specs.Questions.{DeckOfPassed}
 use Rattle.ship.proofs.Facts.{sound, decks-few}
 use Rattle.ship.proofs.ModelFacts.{polygons-length, offset-within, steps-in}
 use Rattle.keeping.specs.declared.Kept.{Kept}
@@ -89,9 +88,6 @@ module _ {file : List ℕ} {p : Vec2} {array : List ℕ} {at d : ℕ} (b : Lists
 
     pub list-room : ListsRoom array′
     list-room = record { room = omega (arith, b .ready .room .room, l .long); few = omega (arith, b .ready .room .few, l .long) }
-
-    list-small : list .count ≤ 2 ^ 31
-    list-small = omega (arith, l .inside, b .ready .room .few)
 
     pub list-place : list .start + list .count ≤ 2 ^ 31
     list-place = omega (arith, l .over .list .inside, l .long, b .ready .room .few)

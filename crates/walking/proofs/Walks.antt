@@ -26,11 +26,21 @@ use Rattle.survey.specs.Search.{turn, turnGives, turnTried, candidatesFrom, tri
 use Rattle.survey.proofs.Loops.{passing-missed, passing-at, hit-polygon, hit-sample, gives-hit, turn-tried-bound}
 use Rattle.walking.specs.declared.Next.{Next}
 use Rattle.walking.specs.declared.Next.the-variants.{Reached, Ended}
-use Rattle.walking.specs.Sees.{shownBy, seenBy, CandidateIn}
-use Rattle.walking.specs.Lists.{WalkReady, TurnReady, PassingReady}
+use Rattle.walking.specs.Sees.{shownBy, seenBy, FileReady, CandidateIn}
+use Rattle.walking.specs.Lists.{WalkReady, TurnReady}
 use Rattle.walking.specs.Walk.{passingAfter, candidatesAfter, triedAfter, Walked, WalkedFrom, WalkedStep, WalkedAfter}
-use Rattle.walking.proofs.ShownLaws.{polygons-shown}
-use Rattle.walking.proofs.Reaching.{step-few}
+use Rattle.walking.proofs.ShownLaws.{polygons-shown, step-few}
+
+-- ---- what a walk is given
+module _ {file blocked : List ℕ} {table : List ℤ} {seat : Seat} {array : List ℕ} (ready : WalkReady file blocked table seat array) where
+  pub walk-file : FileReady file table
+  walk-file = ready .search-ready .file-ready
+
+  pub walk-passed : firstNo file ≡ Passed
+  walk-passed = walk-file .file-passed
+
+  pub walk-blocked : length blocked ≡ 32
+  walk-blocked = ready .search-ready .blocked-long
 
 -- ---- `turns_from`: the decks from d on and before e gave no candidate, and took `tried` samples
 pub record Turning (file blocked : List ℕ) (seat : Seat) (s d tried e : ℕ) : Type 0 where
@@ -45,17 +55,11 @@ pub turn-ready : {file blocked : List ℕ} {table : List ℤ} {seat : Seat} {arr
     → s < stepsIn file → TurnReady file table (seat .place) e s array
 turn-ready ready all l m =
     record {
-      file-ready = ready .search-ready .file-ready;
+      file-ready = walk-file ready;
       place-within = ready .search-ready .place-within;
       turn = record { deck = omega arith; step = m };
       sifted = ready .sifted;
     }
-
-pub blocked-whole : {file blocked : List ℕ} {table : List ℤ} {seat : Seat} {array : List ℕ} → WalkReady file blocked table seat array → length blocked ≡ 32
-blocked-whole ready = ready .search-ready .blocked-long
-
-pub walk-passed : {file blocked : List ℕ} {table : List ℤ} {seat : Seat} {array : List ℕ} → WalkReady file blocked table seat array → firstNo file ≡ Passed
-walk-passed ready = ready .search-ready .file-ready .file-passed
 
 -- the decks of the view are those of the file
 from-view : (file blocked : List ℕ) (seat : Seat) (s d : ℕ) (next : Next)
@@ -140,7 +144,7 @@ module _ {file blocked : List ℕ} {seat : Seat} {s d tried n e : ℕ} (h : Turn
                     };
               })
 
-pub ruleset turning = (turning-all, turn-ready, blocked-whole, walk-passed, turning-none, turning-shut, tries-small, tries-fit, turning-missed, turning-hit)
+pub ruleset turning = (turning-all, turn-ready, walk-blocked, walk-passed, turning-none, turning-shut, tries-small, tries-fit, turning-missed, turning-hit)
 
 -- ---- `first`
 pub from-first : (file blocked : List ℕ) (seat : Seat) (s : ℕ) {next : Next} → WalkedFrom file (seenBy file blocked seat) s 0 next → WalkedStep file (seenBy file blocked seat) s next
@@ -174,14 +178,9 @@ module _ (file blocked : List ℕ) (seat : Seat) (c : Candidate) {hit : Hit} (on
       }
 
 pub passing-ready : {file blocked : List ℕ} {table : List ℤ} {seat : Seat} {array : List ℕ} {c : Candidate} → WalkReady file blocked table seat array → CandidateIn file c
-    → PassingReady file table (seat .place) c array
+    → TurnReady file table (seat .place) (c .deck) (c .step) array
 passing-ready ready on =
-    record {
-      file-ready = ready .search-ready .file-ready;
-      place-within = ready .search-ready .place-within;
-      candidate = on;
-      sifted = ready .sifted;
-    }
+    record { file-ready = walk-file ready; place-within = ready .search-ready .place-within; turn = on .turn; sifted = ready .sifted }
 
 pub next-step : {file : List ℕ} {c : Candidate} → CandidateIn file c → c .step < stepsIn file
 next-step on = on .turn .step

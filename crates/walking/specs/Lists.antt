@@ -16,9 +16,8 @@ use Rattle.ship.specs.Decode.{deckAt, decode}
 use Rattle.keeping.specs.declared.Kept.{Kept}
 use Rattle.keeping.specs.Lists.{listsSize, listAt, ListsRoom}
 use Rattle.sifting.specs.Sifted.{KeptOver}
-use Rattle.hits.specs.declared.Candidate.{Candidate}
 use Rattle.survey.specs.declared.Seat.{Seat}
-use Rattle.walking.specs.Sees.{FileReady, SearchReady, TurnIn, CandidateIn}
+use Rattle.walking.specs.Sees.{FileReady, SearchReady, TurnIn}
 
 -- deck d's box of the last step, in its own coordinates: every sample of a search around p lies in it
 unfoldable pub searchBox : List ℕ → Vec2 → ℕ → BoundingBox
@@ -43,13 +42,6 @@ pub record TurnReady (file : List ℕ) (table : List ℤ) (p : Vec2) (d s : ℕ)
   pub file-ready : FileReady file table
   pub place-within : PointWithin 1000000 p
   pub turn : TurnIn file d s
-  pub sifted : Sifted file p array
-
--- what comes after a candidate on its deck
-pub record PassingReady (file : List ℕ) (table : List ℤ) (p : Vec2) (c : Candidate) (array : List ℕ) : Type 0 where
-  pub file-ready : FileReady file table
-  pub place-within : PointWithin 1000000 p
-  pub candidate : CandidateIn file c
   pub sifted : Sifted file p array
 
 -- a passed file, a point, and an array for the lists

@@ -7,7 +7,7 @@ ghost use Rattle.ship.specs.Layout.{decksIn, stepsIn};
 ghost use Rattle.ship.specs.Decode.{decode};
 ghost use Rattle.survey.specs.Search.{turn};
 ghost use Rattle.walking.specs.Sees.{sampleOn, shownBy, seenBy, FileReady, CandidateIn};
-ghost use Rattle.walking.specs.Lists.{Sifted, WalkReady, TurnReady, PassingReady, ListsReady, ListsBelow, DeckListed};
+ghost use Rattle.walking.specs.Lists.{Sifted, WalkReady, TurnReady, ListsReady, ListsBelow, DeckListed};
 ghost use Rattle.walking.specs.Walk.{passingAfter, WalkedFrom, WalkedStep, WalkedAfter};
 use geometry::Height;
 use geometry::Vec2;
@@ -121,7 +121,7 @@ pub fn height_of(file: &[u8], table: &[i32; 2432], p: Vec2, c: Candidate) -> Hei
 
 // The next polygon after c's that passes at its sample.
 fn next_passing(file: &[u8], table: &[i32; 2432], p: Vec2, c: Candidate, kept: &[u32]) -> Hit
-    requires { ⌜ PassingReady (now file) (now table) p c (now kept) ⌝ }
+    requires { ⌜ TurnReady (now file) (now table) p (c .deck) (c .step) (now kept) × CandidateIn (now file) c ⌝ }
     ensures { λ r. ⌜ r ≡ passingAfter (shownBy (now (file .entry)) p) c ⌝ }
 {
     let b = decks::deck_blocks(file, c.deck);
