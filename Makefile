@@ -1,6 +1,6 @@
 SHELL := bash
 .SHELLFLAGS := -o pipefail -c
-.PHONY: demo test compare bench lib c-example rust-test load-sheets
+.PHONY: demo test compare bench lib c-example rust-test load-sheets plan plan-test
 
 # What `rt` says of each crate goes to standard error as it comes, and what the prover says only where the check fails.
 demo:
@@ -29,6 +29,7 @@ lib:
 
 # These use the library of the folder FEEDERCOIL_LIB, by default the one that `make lib` wrote.
 lib_folder = $(abspath $(or $(FEEDERCOIL_LIB),target/lib))
+have_cargo = command -v cargo >/dev/null || { echo "make: 'cargo', of the Rust tools, is not on the PATH" >&2; exit 2; }
 have_lib = test -f "$(lib_folder)/libseats.a" || { echo "make: no libseats.a in $(lib_folder): run 'make lib' first" >&2; exit 2; }
 
 c-example:
@@ -39,12 +40,28 @@ c-example:
 	target/examples/seatrun | diff examples/c/expected -
 
 rust-test:
-	@command -v cargo >/dev/null || { echo "make: 'cargo', of the Rust tools, is not on the PATH" >&2; exit 2; }
+	@$(have_cargo)
 	@$(have_lib)
 	cd rust && FEEDERCOIL_LIB="$(lib_folder)" cargo test --offline
 
 # Load sheets of random ships, counted anew from their records by a program that shares no code with the crates.
 load-sheets:
-	@command -v cargo >/dev/null || { echo "make: 'cargo', of the Rust tools, is not on the PATH" >&2; exit 2; }
+	@$(have_cargo)
 	@$(have_lib)
 	cd rust && FEEDERCOIL_LIB="$(lib_folder)" cargo run --quiet --offline --example load_sheets | python3 ../tools/load_sheet.py runs
+
+# The program seatplan, and of the ferry its table, its picture and its bytes (docs/PLANS.md).
+plan:
+	@$(have_cargo)
+	@$(have_lib)
+	cd seatplan && FEEDERCOIL_LIB="$(lib_folder)" cargo build --quiet --release --offline
+	@mkdir -p target/plan
+	seatplan/target/release/seatplan examples/ferry/plan.csv examples/ferry/seats.csv --svg target/plan/ferry.svg --ship target/plan/ferry.ship \
+	    --seats target/plan/ferry.seats --records target/plan/ferry.records --seatlist target/plan/ferry.seatlist > target/plan/ferry.txt
+	@echo "table: target/plan/ferry.txt, picture: target/plan/ferry.svg, program: seatplan/target/release/seatplan"
+
+# Its tests; all that it writes, worked out anew by a program that shares no code with it; and the picture of the documents, which is today's.
+plan-test: plan
+	cd seatplan && FEEDERCOIL_LIB="$(lib_folder)" cargo test --offline
+	python3 tools/seatplan.py check
+	diff examples/ferry/ferry.svg target/plan/ferry.svg

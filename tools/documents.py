@@ -49,7 +49,7 @@ def refusal_sentences():
 
 def paths():
     """Paths of the repository that the documents name."""
-    named = [(document, path) for document in DOCUMENTS for path in re.findall(r"`((?:crates|docs|rust|tools|compare|include|examples|\.ci)/[\w./-]*)`", read(document))]
+    named = [(document, path) for document in DOCUMENTS for path in re.findall(r"`((?:crates|docs|rust|seatplan|tools|compare|include|examples|\.ci)/[\w./-]*)`", read(document))]
     return len(named), ["%s names %s, which is not there" % pair for pair in named if not os.path.exists(os.path.join(ROOT, pair[1]))]
 
 
