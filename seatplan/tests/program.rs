@@ -99,7 +99,8 @@ fn nothing_is_written_by_halves() {
         (vec!["plan.csv", "seats.csv", "--seats", "e"], "e: this is no plain file"),
         (vec!["absent.csv", "seats.csv"], "absent.csv: "),
     ] {
-        let said = folder.run(&[&arguments[..], &outputs].concat());
+        // The output that cannot be written comes last, after others that can.
+        let said = folder.run(&[&arguments[..2], &outputs, &arguments[2..]].concat());
         assert_eq!((said.status, said.table.as_str()), (1, ""), "{what}");
         assert!(said.errors.starts_with(&format!("seatplan: {what}")), "{}", said.errors);
         assert_eq!(folder.files().len(), before.len() + 1, "{what}");
