@@ -1,7 +1,8 @@
 //! Deck plans and seat lists as text, asked of the proved library, and its records as a table and a picture.
 //!
 //! A [`Plan`] is a ship with names and with the places of its rows in their files, a [`SeatList`] the seats likewise. [`place_seats`]
-//! asks the library; a refusal comes back as an [`Error`] at the row that it is about. [`table`] and [`svg`] say and draw the records.
+//! asks the library; a refusal comes back as an [`Error`] at the row that it is about. [`table`] and [`svg`] say and draw the records;
+//! [`notes`] says what of the plan may not be meant.
 //!
 //! ```
 //! use seatplan::{place_seats, table, Plan, SeatList};
@@ -26,6 +27,7 @@
 mod around;
 mod error;
 mod mesh;
+mod notes;
 mod output;
 mod panels;
 mod placing;
@@ -36,6 +38,7 @@ mod svg;
 mod table;
 
 pub use error::{Error, Place};
+pub use notes::notes;
 pub use output::write_whole;
 pub use placing::{place_seats, Placing};
 pub use plan::{Deck, Plan};

@@ -6,7 +6,7 @@ use std::path::{Path, PathBuf};
 use std::process::ExitCode;
 
 use feedercoil::BlockedDecks;
-use seatplan::{place_seats, svg, table, write_whole, Error, Placing, Plan, SeatList};
+use seatplan::{notes, place_seats, svg, table, write_whole, Error, Placing, Plan, SeatList};
 
 const USAGE: &str = "\
 seatplan PLAN SEATS [OPTION]..: the place of every seat of a list on the decks of a plan, as a table in metres.
@@ -122,6 +122,7 @@ fn run(command: &Command) -> Result<String, Error> {
     let files: Vec<(PathBuf, Vec<u8>)> =
         command.outputs.iter().map(|(path, content)| (path.clone(), content(&plan, &seats, &placing))).collect();
     write_whole(&files)?;
+    notes(&plan).iter().for_each(|note| eprintln!("seatplan: {note}"));
     Ok(table(&plan, &seats, &placing))
 }
 

@@ -84,6 +84,25 @@ fn no_decks_and_no_seats() {
     assert!(folder.read("c").is_empty());
 }
 
+/// The example's square clockwise, a corner drawn in, a corner on an edge's line.
+#[test]
+fn a_polygon_that_turns_right_is_noted() {
+    let noted = |corners: &str| {
+        let plan = PLAN.replace("vertex,0,4,3", "vertex,0,4,3\nvertex,1,1,2\nvertex,2,0,1").replace("0,1,2,3", corners);
+        let said = example().with("plan.csv", plan).run(&["plan.csv", "seats.csv"]);
+        assert_eq!(said.status, 0);
+        (said.errors, said.table.contains("A1    Main"))
+    };
+    let note = |vertex| {
+        let what = "it holds only what is left of all its edges";
+        format!("seatplan: plan.csv:10:1: note: polygon 0 of deck 'Main' turns clockwise at vertex {vertex}: {what}\n")
+    };
+    assert_eq!(noted("3,2,1,0"), (note(3), false));
+    assert_eq!(noted("0,1,2,4,3").0, note(4));
+    assert_eq!(noted("0,5,1,2,3"), (String::new(), true));
+    assert_eq!(noted("4"), (String::new(), true));
+}
+
 /// Where the plan, the seats or one of the outputs is wrong, no file comes and none is altered.
 #[test]
 fn nothing_is_written_by_halves() {
