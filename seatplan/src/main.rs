@@ -115,8 +115,21 @@ fn real(path: &Path) -> PathBuf {
     fs::canonicalize(path).ok().or_else(beside).unwrap_or(path.to_path_buf())
 }
 
+/// Nor is a mesh file written over that the plan names.
+fn meshes_apart(plan: &Plan, command: &Command) -> Result<(), Error> {
+    let meshes: Vec<PathBuf> =
+        plan.decks.iter().filter_map(|deck| deck.vertices.first()).map(|place| real(Path::new(&*place.file))).collect();
+    match command.outputs.iter().find(|(path, _)| meshes.contains(&real(path))) {
+        Some((path, _)) => {
+            Err(Error::file(&path.display().to_string(), "the plan takes a deck from this file, and it is not written over"))
+        }
+        None => Ok(()),
+    }
+}
+
 fn run(command: &Command) -> Result<String, Error> {
     let plan = Plan::read(&command.inputs[0])?;
+    meshes_apart(&plan, command)?;
     let seats = SeatList::read(&command.inputs[1], &plan)?;
     let placing = place_seats(&plan, &seats, &blocked(&plan, command)?)?;
     let files: Vec<(PathBuf, Vec<u8>)> =

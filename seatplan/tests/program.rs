@@ -130,6 +130,18 @@ fn nothing_is_written_by_halves() {
 }
 
 #[test]
+fn a_mesh_file_is_not_written_over() {
+    let mesh = "mesh\n2\n1 1\n0 0 0\n1 0 -1\n";
+    let folder = Folder::new().with("p", "reach,1\nsteps,1\ndeck,A\nmesh,m\n").with("m", mesh).with("s", SEATS);
+    let said = folder.run(&["p", "s", "--ship", "a", "--svg", "./m"]);
+    assert_eq!(
+        (said.status, said.errors.as_str()),
+        (1, "seatplan: ./m: the plan takes a deck from this file, and it is not written over\n")
+    );
+    assert_eq!((folder.files(), folder.read("m")), (vec!["m".to_string(), "p".to_string(), "s".to_string()], mesh.into()));
+}
+
+#[test]
 fn commands_that_are_none() {
     let folder = example();
     for (arguments, what) in [
