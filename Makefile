@@ -50,9 +50,10 @@ load-sheets:
 	@$(have_lib)
 	cd rust && FEEDERCOIL_LIB="$(lib_folder)" cargo run --quiet --offline --example load_sheets | python3 ../tools/load_sheet.py runs
 
-# The program seatplan, and of the ferry its table, its picture and its bytes (docs/PLANS.md).
+# The program seatplan, and of the ferry its table, its picture and its bytes (docs/PLANS.md). The library is built first where it is not there.
 plan:
 	@$(have_cargo)
+	@test -n "$(FEEDERCOIL_LIB)" -o -f target/lib/libseats.a || $(MAKE) lib
 	@$(have_lib)
 	cd seatplan && FEEDERCOIL_LIB="$(lib_folder)" cargo build --quiet --release --offline
 	@mkdir -p target/plan
