@@ -267,8 +267,8 @@ def run(plan, seats, folder, wanted, closed=()):
 NAMES = ["Main", "Sun deck", 'A "B" & <C>', "Brücke; oben", "1,5 m", "'", "-"]
 
 
-def random_deck(rng, name):
-    """Squares of side 2 with corners that are a little off, some left out; now and then written lists."""
+def random_deck(rng, name, far):
+    """Squares of side 2 with corners that are a little off, some left out."""
     wide, high = rng.randint(1, 3), rng.randint(1, 3)
     at = lambda i, j: (2 * i + rng.randint(-3, 3) / 8, 2 * j + rng.randint(-3, 3) / 8, [])
     vertices = [at(i, j) for j in range(high + 1) for i in range(wide + 1)]
@@ -276,7 +276,7 @@ def random_deck(rng, name):
     polygons = [square(i, j) for j in range(high) for i in range(wide) if rng.randint(0, 3)] or [square(0, 0)]
     rng.shuffle(polygons)
     heights = [rng.randint(-20, 80) / 10 for _ in vertices] if rng.randint(0, 2) else []
-    offset = (rng.randint(-9, 9) / 10, rng.randint(-9, 9) / 10)
+    offset = (far + rng.randint(-9, 9) / 10, rng.randint(-9, 9) / 10)
     deck = {"name": name, "offset": offset, "vertices": vertices, "polygons": polygons, "heights": heights}
     deck["vertices"] = [(x, y, entries) for (x, y, _), entries in zip(vertices, around(deck))]
     return deck
@@ -301,10 +301,10 @@ def entry_text(rng, entry):
     return rng.choice(["-1", "outside"]) if entry == ALL_ONES else str(entry)
 
 
-def random_plan(rng, folder):
-    """A plan's model, and its text in the folder."""
+def random_plan(rng, folder, far):
+    """A plan's model, and its text in the folder. Far off, where floats are millimetres apart, a distance is no longer step times reach."""
     names = rng.sample(NAMES, rng.randint(0, 3))
-    plan = {"reach": rng.randint(0, 12) / 8, "steps": rng.randint(1, 3), "decks": [random_deck(rng, name) for name in names]}
+    plan = {"reach": rng.randint(0, 12) / 8, "steps": rng.randint(1, 3), "decks": [random_deck(rng, name, far) for name in names]}
     rows = []
     for d, deck in enumerate(plan["decks"]):
         rows.append(["deck", deck["name"], str(deck["offset"][0]), str(deck["offset"][1])])
@@ -338,13 +338,13 @@ def write_mesh(path, deck):
             out.write(" ".join(str(n) for n in [len(polygon)] + polygon + [-1] * len(polygon)) + "\n")
 
 
-def random_seats(rng, plan, folder):
+def random_seats(rng, plan, folder, far):
     names = [deck["name"] for deck in plan["decks"]]
     seats = []
     for i in range(rng.randint(0, 9)):
         deck = rng.choice(names) if names and rng.randint(0, 2) == 0 else ""
         name = rng.choice(["%d", "#%d", "A,%d", 'no. "%d"', "é%d", "<%d>"]) % i
-        seats.append((name, rng.randint(-20, 80) / 10, rng.randint(-20, 80) / 10, deck, rng.choice(["", "1.5"])))
+        seats.append((name, far + rng.randint(-20, 80) / 10, rng.randint(-20, 80) / 10, deck, rng.choice(["", "1.5"])))
     head = [["name", "x", "y", "deck", "height"]] if rng.randint(0, 1) else []
     write_rows(rng, os.path.join(folder, "seats.csv"), head + [[str(c) for c in one] for one in seats], False)
     return seats
@@ -362,8 +362,9 @@ def check():
                 plan, seats = read_plan(os.path.join(where, "plan.csv")), read_seats(os.path.join(where, "seats.csv"))
             else:
                 where, name = folder, "random plan %d" % i
-                plan = random_plan(rng, folder)
-                seats = random_seats(rng, plan, folder)
+                far = rng.choice([0, 0, 0, 90000])
+                plan = random_plan(rng, folder, far)
+                seats = random_seats(rng, plan, folder, far)
                 closed = tuple(d for d in range(len(plan["decks"])) if rng.randint(0, 4) == 0)
             try:
                 listed += run(os.path.join(where, "plan.csv"), os.path.join(where, "seats.csv"), folder, Wanted(plan, seats, closed), closed)
