@@ -293,7 +293,7 @@ def write_rows(rng, path, rows, comments):
     with open(path, "w", encoding=rng.choice(["utf-8", "utf-8-sig"]), newline="") as out:
         for row in rows:
             if comments and rng.randint(0, 9) == 0:
-                out.write(rng.choice(["# a, comment; of\t'no' \"use", ""]) + end)
+                out.write(rng.choice(["# a, comment; of\t'no' \"use", ' "# one, in ""quotes""",,', ""]) + end)
             out.write(separator.join(quoted(cell) for cell in row + [""] * (width - len(row))) + end)
 
 

@@ -12,8 +12,8 @@ struct Corner {
 }
 
 /// Of each vertex its polygons counter-clockwise, each once: a run of polygons that share an edge, and the outside where the run ends
-/// with an edge that no further polygon has. Runs come by the number of their first polygon; a closed run begins with its least. A
-/// vertex of no polygon has the outside alone. A corner that names no vertex is left to the library, which refuses it.
+/// with an edge that no further polygon has. Open runs come by the number of their first polygon, then closed ones, each from its
+/// least. A vertex of no polygon has the outside alone. A corner that names no vertex is left to the library, which refuses it.
 pub fn polygons_around(vertices: usize, polygons: &[Vec<u32>]) -> Vec<Vec<u32>> {
     let mut corners: Vec<Vec<Corner>> = (0..vertices).map(|_| Vec::new()).collect();
     for (k, polygon) in polygons.iter().enumerate() {

@@ -20,8 +20,8 @@ pub fn read_mesh(file: &str, text: &str) -> Result<Mesh, Error> {
     lines.word("mesh", "the word 'mesh'")?;
     lines.word("2", "version 2 of the format")?;
     let counts = lines.next("numbers of vertices and polygons")?;
-    let vertices: usize = counts.needed(0, "number of vertices")?.number("number of vertices")?;
-    let polygons: usize = counts.needed(1, "number of polygons")?.number("number of polygons")?;
+    let vertices: usize = counts.needed(0, "number of vertices")?.whole("number of vertices")?;
+    let polygons: usize = counts.needed(1, "number of polygons")?.whole("number of polygons")?;
     counts.at_most(2)?;
     let mut mesh = Mesh { deck: DeckPlan::default(), vertices: Vec::new(), polygons: Vec::new() };
     for _ in 0..vertices {
@@ -62,17 +62,17 @@ impl<'a> Lines<'a> {
 }
 
 fn vertex(row: &Row) -> Result<VertexPlan, Error> {
-    let x = row.needed(0, "x")?.number("number")?;
-    let y = row.needed(1, "y")?.number("number")?;
-    let count: usize = row.needed(2, "number of polygons around it")?.number("number of polygons")?;
+    let x = row.needed(0, "x")?.float()?;
+    let y = row.needed(1, "y")?.float()?;
+    let count: usize = row.needed(2, "number of polygons around it")?.whole("number of polygons")?;
     let neighbours = counted(row, 3, count, "polygons", entry)?;
     row.at_most(count.saturating_add(3))?;
     Ok(VertexPlan { x, y, neighbours })
 }
 
 fn polygon(row: &Row) -> Result<Vec<u32>, Error> {
-    let count: usize = row.needed(0, "number of vertices")?.number("number of vertices")?;
-    let corners = counted(row, 1, count, "vertices", |cell| cell.number("vertex number"))?;
+    let count: usize = row.needed(0, "number of vertices")?.whole("number of vertices")?;
+    let corners = counted(row, 1, count, "vertices", |cell| cell.whole("vertex number"))?;
     // The ship file has no place for the neighbours of a polygon. They are read, so that a wrong count shows.
     counted(row, count.saturating_add(1), count, "neighbours", entry)?;
     row.at_most(count.saturating_mul(2).saturating_add(1))?;
@@ -92,7 +92,7 @@ fn counted(row: &Row, from: usize, count: usize, kind: &str, read: fn(&Cell) -> 
 pub fn entry(cell: &Cell) -> Result<u32, Error> {
     match cell.text.as_str() {
         "-1" | "outside" => Ok(OUTSIDE),
-        _ => cell.number("polygon number"),
+        _ => cell.whole("polygon number"),
     }
 }
 

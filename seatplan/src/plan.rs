@@ -80,8 +80,8 @@ fn plan_of_text(file: &str, text: &str, read: &mut ReadMesh) -> Result<Plan, Err
     let mut decks: Vec<DeckRows> = Vec::new();
     for row in cell_rows(file, text, true)? {
         match row.cells[0].text.as_str() {
-            "reach" => once(&mut reach, &row, row.needed(1, "number")?.number("number")?)?,
-            "steps" => once(&mut steps, &row, row.needed(1, "whole number")?.number("whole number")?)?,
+            "reach" => once(&mut reach, &row, row.needed(1, "number")?.float()?)?,
+            "steps" => once(&mut steps, &row, row.needed(1, "whole number")?.whole("whole number")?)?,
             "deck" => decks.push(DeckRows::new(&row, &decks)?),
             _ => match decks.last_mut() {
                 Some(deck) => deck.take(&row, read)?,
@@ -123,7 +123,7 @@ impl DeckRows {
         if let Some(other) = before.iter().find(|other| other.deck.name == name.text) {
             return Err(Error::text(&name.place, format!("a deck '{}' stands on line {} already", name.text, other.deck.place.line)));
         }
-        let offset = |i| row.cell(i).map_or(Ok(0.0), |cell| cell.number("number"));
+        let offset = |i| row.cell(i).map_or(Ok(0.0), |cell| cell.float());
         let plan = DeckPlan { offset: (offset(2)?, offset(3)?), ..DeckPlan::default() };
         let place = row.place.clone();
         let deck = Deck { name: name.text.clone(), plan, place, vertices: Vec::new(), polygons: Vec::new(), uneven: None };
@@ -146,15 +146,15 @@ impl DeckRows {
 
     /// `vertex, x, y, height or blank`
     fn vertex(&mut self, row: &Row) -> Result<(), Error> {
-        let x = row.needed(1, "x")?.number("number")?;
-        let y = row.needed(2, "y")?.number("number")?;
+        let x = row.needed(1, "x")?.float()?;
+        let y = row.needed(2, "y")?.float()?;
         row.at_most(4)?;
         let even = row.cell(3).is_some() != self.deck.plan.heights.is_empty();
         if !even && !self.deck.vertices.is_empty() && self.deck.uneven.is_none() {
             self.deck.uneven = Some(row.place.clone());
         }
         if let Some(cell) = row.cell(3) {
-            self.deck.plan.heights.push(cell.number("number")?);
+            self.deck.plan.heights.push(cell.float()?);
         }
         self.deck.plan.vertices.push(VertexPlan { x, y, neighbours: Vec::new() });
         self.deck.vertices.push(row.place.clone());
@@ -163,7 +163,7 @@ impl DeckRows {
 
     /// `polygon, vertex, vertex, ..`
     fn polygon(&mut self, row: &Row) -> Result<(), Error> {
-        self.deck.plan.polygons.push(row.cells[1..].iter().map(|cell| cell.number("vertex number")).collect::<Result<_, _>>()?);
+        self.deck.plan.polygons.push(row.cells[1..].iter().map(|cell| cell.whole("vertex number")).collect::<Result<_, _>>()?);
         self.deck.polygons.push(row.place.clone());
         Ok(())
     }
@@ -172,7 +172,7 @@ impl DeckRows {
     fn neighbours(&mut self, row: &Row) -> Result<(), Error> {
         let vertex = row.needed(1, "vertex number")?;
         let entries = row.cells[2..].iter().map(entry).collect::<Result<_, _>>()?;
-        match self.written.insert(vertex.number("vertex number")?, (vertex.place.clone(), entries)) {
+        match self.written.insert(vertex.whole("vertex number")?, (vertex.place.clone(), entries)) {
             Some((place, _)) => {
                 Err(Error::text(&vertex.place, format!("the neighbours of vertex {} stand on line {} already", vertex.text, place.line)))
             }
@@ -192,7 +192,7 @@ impl DeckRows {
             error => error,
         })?;
         let mesh = read_mesh(&file, &text)?;
-        let height: Option<f32> = row.cell(2).map(|cell| cell.number("number")).transpose()?;
+        let height: Option<f32> = row.cell(2).map(|cell| cell.float()).transpose()?;
         let heights = height.map_or(Vec::new(), |height| vec![height; mesh.vertices.len()]);
         self.deck.plan = DeckPlan { offset: self.deck.plan.offset, heights, ..mesh.deck };
         self.deck.vertices = mesh.vertices;

@@ -16,19 +16,26 @@ impl Cell {
         self.text.is_empty()
     }
 
-    /// The number that the cell has; `kind` says which ones are asked for.
-    pub fn number<N: FromStr>(&self, kind: &str) -> Result<N, Error> {
-        self.text.parse().map_err(|_| self.wrong(kind))
+    /// The nearest float.
+    pub fn float(&self) -> Result<f32, Error> {
+        let advice = if self.text.contains(',') { ": decimals have a point" } else { "" };
+        self.text.parse().map_err(|_| self.is_no(&format!("number{advice}")))
     }
 
-    /// The cell has not what is asked for.
-    pub fn wrong(&self, kind: &str) -> Error {
-        let what = match self.text.contains(',') {
-            true => format!("'{}' is no {kind}: decimals have a point", self.text),
-            false if self.is_blank() => format!("a blank cell in place of the {kind}"),
-            false => format!("'{}' is no {kind}", self.text),
-        };
-        Error::text(&self.place, what)
+    /// The whole number; `kind` says of what.
+    pub fn whole<N: FromStr>(&self, kind: &str) -> Result<N, Error> {
+        self.text.parse().map_err(|_| self.is_no(kind))
+    }
+
+    fn is_no(&self, kind: &str) -> Error {
+        match self.is_blank() {
+            true => self.blank(kind),
+            false => Error::text(&self.place, format!("'{}' is no {kind}", self.text)),
+        }
+    }
+
+    fn blank(&self, kind: &str) -> Error {
+        Error::text(&self.place, format!("a blank cell in place of the {kind}"))
     }
 }
 
@@ -47,7 +54,7 @@ impl Row {
     /// The cell that has to be there; where it is not, the row's own place is the wrong one.
     pub fn needed(&self, i: usize, kind: &str) -> Result<&Cell, Error> {
         match self.cells.get(i) {
-            Some(cell) if cell.is_blank() => Err(cell.wrong(kind)),
+            Some(cell) if cell.is_blank() => Err(cell.blank(kind)),
             Some(cell) => Ok(cell),
             None => Err(Error::text(&self.place, format!("the row ends before its {kind}"))),
         }
@@ -77,7 +84,8 @@ pub fn text_of_bytes(file: &str, bytes: Vec<u8>) -> Result<String, Error> {
 /// a comma or a semicolon in it, and a quote as two. Empty rows are left out, and lines with `#` first where it marks a comment.
 pub fn cell_rows(file: &str, text: &str, comments: bool) -> Result<Vec<Row>, Error> {
     let file: Rc<str> = file.into();
-    let is_comment = |line: &str| comments && line.trim_start().starts_with('#');
+    // A spreadsheet puts a comment with a comma in quotes.
+    let is_comment = |line: &str| comments && line.trim_start_matches(|c: char| c.is_whitespace() || c == '"').starts_with('#');
     let kept = || text.lines().enumerate().filter(|(_, line)| !is_comment(line));
     let separator = kept().find_map(|(_, line)| separator(line)).unwrap_or(',');
     let mut rows = Vec::new();

@@ -56,14 +56,14 @@ fn is_header(row: &Row) -> bool {
 
 fn named_seat(row: &Row, plan: &Plan) -> Result<NamedSeat, Error> {
     let name = row.needed(0, "seat's name")?;
-    let x = row.needed(1, "x")?.number("number")?;
-    let y = row.needed(2, "y")?.number("number")?;
+    let x = row.needed(1, "x")?.float()?;
+    let y = row.needed(2, "y")?.float()?;
     let absent = |name: &str| format!("the plan has no deck '{name}': {}", plan.deck_names());
     let deck = match row.cell(3) {
         Some(cell) => Some(plan.deck_number(&cell.text).ok_or_else(|| Error::text(&cell.place, absent(&cell.text)))? as u32),
         None => None,
     };
-    let wish = row.cell(4).map(|cell| cell.number("number")).transpose()?;
+    let wish = row.cell(4).map(|cell| cell.float()).transpose()?;
     row.at_most(5)?;
     Ok(NamedSeat { name: name.text.clone(), seat: Seat { x, y, deck, wish }, place: row.place.clone() })
 }

@@ -43,6 +43,7 @@ fn a_plans_text() {
         ("vertex,4,0,1", "vertex, 4, 0, \"1", "p:5:15: a quote that does not end"),
         ("vertex,4,0,1", "corner,4,0,1", "p:5:1: 'corner' is neither 'vertex', 'polygon', 'neighbours', 'mesh' nor 'deck'"),
         ("0,1,2,3", "0,1,-2,3", "p:8:13: '-2' is no vertex number"),
+        ("polygon,0,1,2,3", "polygon,\"0,1\"", "p:8:9: '0,1' is no vertex number"),
         ("0,1,2,3", "0,1,,3", "p:8:13: a blank cell in place of the vertex number"),
         ("polygon,", "neighbours\npolygon,", "p:8:1: the row ends before its vertex number"),
         ("polygon,", "neighbours,0,0,open\npolygon,", "p:8:16: 'open' is no polygon number"),

@@ -1,5 +1,4 @@
 //! A random ship is written as text, read, and written as a ship file, which has to be the ship's own.
-#[allow(dead_code)]
 #[path = "../../rust/tests/common/mod.rs"]
 mod common;
 use common::Random;
