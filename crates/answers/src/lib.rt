@@ -1,17 +1,19 @@
 // How a call asks, refuses and replies (document 01, 'The questions, in order'). Nothing here knows of files or seats.
+#![tactic(auto)]
+
 ghost use Rattle.std.specs.Prelude.{◌≡◌, ◌*◌, ◌<◌};
 ghost use Rattle.answers.specs.Questions.{question14, question17, looks_at, question20};
 ghost use Rattle.answers.specs.Replies.{code_of, AnswerFits};
 
 // All questions passed, or the number of the first that did not.
-#[derive(Drop)]
+#[derive(Clone, Copy)]
 pub enum Check {
     Passed,
     No(u32),
 }
 
 // The number of the question that was not passed, or how many entries were written.
-#[derive(Drop)]
+#[derive(Clone, Copy)]
 pub enum Answer {
     Refused(u32),
     Wrote(usize),

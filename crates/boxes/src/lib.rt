@@ -1,5 +1,7 @@
 // What an edge says of every point of a box at once, at the price of one corner; and the box that holds every sample of a step. A search leaves
 // out by it what it cannot reach. Nothing here knows of files, decks or seats.
+#![tactic(auto)]
+
 ghost use Rattle.std.specs.Prelude.{◌≡◌, ◌<◌};
 ghost use Rattle.boxes.specs.Box.{larger_end, largest_cross, is_apart, box_test_of};
 ghost use Rattle.boxes.specs.StepBox.{step_box};
@@ -7,14 +9,14 @@ ghost use Rattle.boxes.specs.StepBox.{step_box};
 use geometry::Vec2;
 
 // A box, by the corner of its least coordinates and the one of its greatest, ends included.
-#[derive(Drop)]
+#[derive(Clone, Copy)]
 pub struct BoundingBox {
     pub low: Vec2,
     pub high: Vec2,
 }
 
 // What an edge says of the polygon test over a whole box: Outside at every point, Inside at none, or neither is known.
-#[derive(Drop)]
+#[derive(Clone, Copy)]
 pub enum BoxTest {
     Never,
     Next,

@@ -1,4 +1,6 @@
 // The calls that answer one query: the closest points on the decks, and the height at a place (document 01, sections 5 and 6).
+#![tactic(auto)]
+
 ghost use Rattle.std.specs.Prelude.{◌≡◌, ◌+◌, ◌*◌, ◌^◌, ◌≤◌, length};
 ghost use Rattle.geometry.specs.Bounds.{PointWithin, HeightWithin};
 ghost use Rattle.words.specs.Bytes.{splice};

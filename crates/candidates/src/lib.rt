@@ -1,4 +1,6 @@
 // The polygons that a point may be on (document 01, section 8, `candidate_polygons`).
+#![tactic(auto)]
+
 ghost use Rattle.std.specs.Prelude.{◌≡◌, [], ◌∷◌, ◌*◌, length};
 ghost use Rattle.answers.specs.Questions.{question20};
 ghost use Rattle.ship.specs.Layout.{number_size};

@@ -4,6 +4,8 @@
 // after an answer `zeros` if all of the work is zeros, after a refusal `untouched` if all of it is as it was filled, else `altered`. A
 // line for each entry follows: each word a space and 8 hexadecimal digits, lower case. The table's counts are the last entries, two words
 // each, the lower one first.
+#![tactic(auto)]
+
 ghost use Rattle.std.specs.Prelude.{◌+◌, ◌<◌, ◌≤◌, length};
 
 use answers::Answer;
@@ -180,7 +182,7 @@ pub fn print_tabled(
 
 // ---- places
 // What two words say of a place.
-#[derive(Drop)]
+#[derive(Clone, Copy)]
 pub enum Place {
     At(Vec2),
     Bad,

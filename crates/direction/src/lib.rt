@@ -1,4 +1,6 @@
 // The direction from a point towards another (document 02, point 2).
+#![tactic(auto)]
+
 ghost use Rattle.std.specs.Prelude.{◌≡◌, false};
 ghost use Rattle.std.specs.Float.Ieee.{eq};
 ghost use Rattle.geometry.specs.Plane.{zero32};

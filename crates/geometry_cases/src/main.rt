@@ -1,6 +1,8 @@
 // Runs the cases of tools/geometry_cases.py. A case is a line: a letter for the function, then its arguments, each a space and 8
 // hexadecimal digits, capitals (a float by its bit pattern). The answer is a line of the same form with lower-case digits, `nan` for a
 // NaN, `-` for no height, and the one word `bad` for a line that is no case or asks for what the function does not take.
+#![tactic(auto)]
+
 ghost use Rattle.std.specs.Prelude.{◌≡◌, ◌+◌, ◌*◌, ◌<◌, ◌≤◌, length};
 ghost use Rattle.ring.specs.Table.{directions};
 
@@ -8,7 +10,7 @@ use geometry::{EdgeSide, EdgeTest, Height, HeightSum, Vec2};
 use libc::{STDIN_FILENO, STDOUT_FILENO};
 
 // What a case's function says.
-#[derive(Drop)]
+#[derive(Clone, Copy)]
 enum Answer {
     Bad,
     None,
@@ -18,7 +20,7 @@ enum Answer {
 }
 
 // The number of a word, if it is one.
-#[derive(Drop)]
+#[derive(Clone, Copy)]
 enum Word {
     Number(u32),
     Bad,

@@ -1,16 +1,18 @@
 // What a search finds: the hit that ends a deck's turn, and a candidate (document 01, section 5). The definitions of the first hit are in specs/.
+#![tactic(auto)]
+
 ghost use Rattle.std.specs.Prelude.{◌≡◌, ◌<◌, ◌^◌};
 ghost use Rattle.hits.specs.Hits.{tried_of};
 
 // The first sample of a deck's turn that hits, and the first polygon that passes there.
-#[derive(Drop)]
+#[derive(Clone, Copy)]
 pub enum Hit {
     At(usize, usize),
     Missed,
 }
 
 // A polygon at a sample: of a step, on a deck.
-#[derive(Drop)]
+#[derive(Clone, Copy)]
 pub struct Candidate {
     pub step: usize,
     pub deck: usize,

@@ -1,4 +1,6 @@
 // The label of each polygon of a deck: the least number that reaches it (document 01, section 8, `bake_islands_detection`).
+#![tactic(auto)]
+
 ghost use Rattle.std.specs.Prelude.{◌≡◌, ◌||◌, ◌++◌, ◌+◌, ◌*◌, ◌≤◌, ◌<◌, eqb, ltb, length, drop, replicate};
 ghost use Rattle.words.specs.Bytes.{all_ones, words_of, put_u32, number_at};
 ghost use Rattle.ship.specs.Layout.{number_size};

@@ -1,5 +1,7 @@
 // A kept list: which polygons of a deck a search looks at, and the search over them (document 01, section 5). Who has found the list has shown that no
 // other polygon passes where it is searched for; how it was found does not matter here.
+#![tactic(auto)]
+
 ghost use Rattle.std.specs.Prelude.{◌≡◌, ◌+◌, ◌^◌, ◌≤◌, ◌<◌, length, set};
 ghost use Rattle.ring.specs.Table.{directions};
 ghost use Rattle.ship.specs.Decode.{deck_at};
@@ -13,7 +15,7 @@ use hits::Hit;
 use ship::Blocks;
 
 // The polygons whose numbers stand in an array, `count` of them from `start` on, and every polygon from number `rest` on.
-#[derive(Drop)]
+#[derive(Clone, Copy)]
 pub struct Kept {
     pub start: usize,
     pub count: usize,

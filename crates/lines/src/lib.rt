@@ -1,4 +1,6 @@
 // The lines of `seatlist` as bytes (document 01, section 7), and question 21. Text is put at a position, and the position after it is answered.
+#![tactic(auto)]
+
 ghost use Rattle.std.specs.Prelude.{◌≡◌, true, ◌+◌, ◌≤◌, ◌<◌, length};
 ghost use Rattle.words.specs.Bytes.{u32_at, Put};
 ghost use Rattle.lines.specs.Text.{decimal, hex};

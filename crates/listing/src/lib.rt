@@ -1,4 +1,6 @@
 // The text of `seatlist` from the bytes that it reads (document 01, section 7).
+#![tactic(auto)]
+
 ghost use Rattle.std.specs.Prelude.{◌≡◌, ◌*◌, ◌≤◌, length};
 ghost use Rattle.words.specs.Bytes.{Put};
 ghost use Rattle.answers.specs.declared.Check.TheVariants.{Passed};

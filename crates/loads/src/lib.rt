@@ -1,4 +1,6 @@
 // The seat run with a load sheet beside the records (document 02, point 4).
+#![tactic(auto)]
+
 ghost use Rattle.std.specs.Prelude.{◌≡◌, ◌+◌, ◌*◌, ◌^◌, ◌≤◌, ◌<◌, length};
 ghost use Rattle.words.specs.Bytes.{count_at};
 ghost use Rattle.answers.specs.declared.Check.TheVariants.{Passed};

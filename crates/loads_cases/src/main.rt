@@ -1,4 +1,6 @@
 // Runs the cases of tools/loads_cases.py.
+#![tactic(auto)]
+
 use libc::STDIN_FILENO;
 
 // An input that does not fit is cut: `bad`, or too few lines, shows it.

@@ -1,4 +1,6 @@
 // On which polygon a point is, looked for at nine probes a deck (document 01, section 8).
+#![tactic(auto)]
+
 ghost use Rattle.std.specs.Prelude.{◌≡◌, ◌*◌, ◌<◌, ◌≤◌, length, take};
 ghost use Rattle.words.specs.Bytes.{words_of};
 ghost use Rattle.answers.specs.declared.Check.TheVariants.{Passed};
@@ -13,7 +15,7 @@ use hits::Hit;
 use ship::{Blocks, NUMBER_SIZE};
 
 // The number of the question that was not passed, or the packed polygon, all ones where there is none.
-#[derive(Drop)]
+#[derive(Clone, Copy)]
 pub enum Location {
     Refused(u32),
     Found(u32),

@@ -1,4 +1,6 @@
 // Candidates that an earlier one reaches are dropped from their list (document 01, section 8; the Rust's `merge_touching_readings`).
+#![tactic(auto)]
+
 ghost use Rattle.merging.specs.Merging.{ListReady, ListMerged};
 ghost use Rattle.merging.specs.Flood.{SwapReady, Swapped, PartReady, Parted, FloodReady, Flooded};
 

@@ -1,5 +1,7 @@
 // The packed numbers of a step's candidates: written to a list, and how many of them stay once the list is merged, counted with no list at
 // all (document 01, section 8, `candidate_polygons`).
+#![tactic(auto)]
+
 ghost use Rattle.std.specs.Prelude.{◌≡◌, ◌^◌, ◌≤◌, ◌<◌, length, get_or};
 ghost use Rattle.words.specs.Bytes.{splice, words_of};
 ghost use Rattle.numbering.specs.Numbers.{step_numbers, step_reach, step_drops, step_merged, StepReady, NumbersFit, StepCounted, ReachReady, DropReady};

@@ -8,6 +8,8 @@
 // The answer's lines are those of the crate `cases`; a new file is printed a word a line. A location is one line: `found` and the
 // packed polygon in 8 hexadecimal digits, or `refused` and the number. What is no case gives the one word `bad`, and nothing after it
 // is read.
+#![tactic(auto)]
+
 ghost use Rattle.std.specs.Prelude.{◌≤◌, length};
 
 use cases::{FILL, Place, place_at, print, print_answer, print_word, print_worked};
@@ -22,7 +24,7 @@ const HEAD: usize = 36;
 const MOST_LENT: usize = 32768;
 
 // The numbers that a query has beside its bytes.
-#[derive(Drop)]
+#[derive(Clone, Copy)]
 struct Query {
     call: u8,
     p: Vec2,

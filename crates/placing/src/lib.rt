@@ -1,4 +1,6 @@
 // The search of one seat over a ship file: the candidates of the first step with any, and the one that the seat takes (document 01, section 7).
+#![tactic(auto)]
+
 ghost use Rattle.std.specs.Prelude.{◌≡◌, [], ◌∷◌, ◌+◌, ◌*◌, ◌^◌, ◌≤◌, ◌<◌};
 ghost use Rattle.geometry.specs.Bounds.{HeightWithin};
 ghost use Rattle.records.specs.Record.{unplaced_record};
@@ -18,14 +20,14 @@ use survey::{Seat, Wish};
 use walking::Next;
 
 // The candidate that is chosen so far, where it lies, and the height there.
-#[derive(Drop)]
+#[derive(Clone, Copy)]
 pub enum Best {
     NoneYet,
     Chosen(Candidate, Vec2, Height),
 }
 
 // Samples tried, and the candidates of the step so far.
-#[derive(Drop)]
+#[derive(Clone, Copy)]
 pub struct Tally {
     pub tried: usize,
     pub candidates: usize,

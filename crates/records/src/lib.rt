@@ -1,4 +1,6 @@
 // The record of a seat (document 01, section 7): read from bytes and written to them.
+#![tactic(auto)]
+
 ghost use Rattle.std.specs.Prelude.{◌≡◌, ◌+◌, ◌*◌, ◌≤◌, length};
 ghost use Rattle.words.specs.Bytes.{splice};
 ghost use Rattle.records.specs.Record.{record_size, word_at, record_at, record_bytes, is_unplaced};
@@ -6,7 +8,7 @@ ghost use Rattle.records.specs.Record.{record_size, word_at, record_at, record_b
 pub const RECORD_SIZE: usize = 36;
 
 // The nine numbers, in the record's order. Floats are there by their bits.
-#[derive(Drop)]
+#[derive(Clone, Copy)]
 pub struct SeatRecord {
     pub polygon: u32,
     pub x: u32,

@@ -1,4 +1,6 @@
 // A ship file without its stitches, written anew (document 01, section 8, `remove_stitches` and `remove_stitches_to_layer`).
+#![tactic(auto)]
+
 ghost use Rattle.std.specs.Prelude.{◌≡◌, ◌+◌, ◌*◌, ◌≤◌, ◌<◌, length};
 ghost use Rattle.words.specs.Bytes.{words_of, slice, splice, Put};
 ghost use Rattle.answers.specs.declared.Check.TheVariants.{Passed};

@@ -1,4 +1,6 @@
 // Where a search looks: along a direction, at the ring samples of document 01, section 4, and at the nine probes of section 8.
+#![tactic(auto)]
+
 ghost use Rattle.std.specs.Prelude.{◌≡◌, ◌<◌, ◌≤◌, ◌*◌, pos, get_or};
 ghost use Rattle.ring.specs.Table.{directions};
 ghost use Rattle.ring.specs.Sample.{fraction_of, along_of, sample_of};

@@ -1,11 +1,13 @@
 // The square root of an f32, to the nearest f32, ties to even, worked out on whole numbers (document 02, point 2). This crate knows only floats.
+#![tactic(auto)]
+
 ghost use Rattle.std.specs.Prelude.{◌≡◌, ◌+◌, ◌*◌, ◌%◌, ◌^◌, ◌≤◌, ◌<◌, T};
 ghost use Rattle.std.specs.Float.Ieee.Positive.{positive};
 ghost use Rattle.root.specs.Nearest.{root_of};
 ghost use Rattle.root.specs.Patterns.{Pattern, Shifted, Between, WholeRoot, RootPattern};
 
 // A number as digits * 2 ^ shift, with 24 binary digits.
-#[derive(Drop)]
+#[derive(Clone, Copy)]
 pub struct Parts {
     pub digits: u64,
     pub shift: u32,

@@ -1,4 +1,6 @@
 // The polygon test and heights over a ship file in place (document 01, sections 3 and 6). Nothing here knows of seats or records.
+#![tactic(auto)]
+
 ghost use Rattle.std.specs.Prelude.{◌≡◌, ◌<◌, length, get_or};
 ghost use Rattle.geometry.specs.Heights.{mean_height};
 ghost use Rattle.ship.specs.Decode.{deck_at};

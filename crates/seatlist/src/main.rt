@@ -1,4 +1,6 @@
 // Reads an input, and writes its text (document 01, section 7).
+#![tactic(auto)]
+
 ghost use Rattle.std.specs.Prelude.{◌≤◌, length};
 ghost use Rattle.listing.specs.Sizes.{longest_text};
 

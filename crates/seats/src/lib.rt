@@ -1,4 +1,6 @@
 // The C interface: every function that is exported. Each returns the count of entries, or minus the number of the question that was not passed.
+#![tactic(auto)]
+
 ghost use Rattle.std.specs.Prelude.{◌≡◌};
 ghost use Rattle.calls.specs.Closest.{point_of_parts, PointsCode, PointCode};
 ghost use Rattle.calls.specs.HeightCall.{HeightCode};

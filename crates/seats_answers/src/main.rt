@@ -1,4 +1,6 @@
 // Runs stored cases with the Rust's answers, which `compare/run answers` makes.
+#![tactic(auto)]
+
 use libc::STDIN_FILENO;
 
 // An input that does not fit is cut: `bad`, or too few lines, shows it.

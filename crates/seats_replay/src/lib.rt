@@ -5,6 +5,8 @@
 //   P, the closest points, and Q, the closest point: file length, blocked length, x, y, deck, output length
 //   H, the height: file length, x, y, packed polygon, output length
 // The answer's lines are those of the crate `cases`. What is no case gives the one word `bad`, and nothing after it is read.
+#![tactic(auto)]
+
 ghost use Rattle.std.specs.Prelude.{◌<◌, ◌≤◌, length};
 ghost use Rattle.keeping.specs.Lists.{ListsRoom};
 

@@ -1,6 +1,8 @@
 // Runs the cases of tools/ship_cases.py. The input is cases, one after the other: a length (u32, little-endian), then a ship file of
 // that many bytes. The answer is a line: `passed`, or `no` and the number of the first question that the file does not pass. A length
 // that runs past the input gives the one word `bad`, and nothing after it is read.
+#![tactic(auto)]
+
 use answers::Check;
 use libc::{STDIN_FILENO, STDOUT_FILENO};
 

@@ -1,5 +1,7 @@
 // Polygons that no sample of a search can reach are sifted out: of those that a kept list has a search look at, the ones that may pass at a point of
 // a box are kept.
+#![tactic(auto)]
+
 ghost use Rattle.std.specs.Prelude.{◌≡◌, ◌^◌, ◌≤◌, ◌<◌, length};
 ghost use Rattle.ring.specs.Table.{directions};
 ghost use Rattle.boxes.specs.StepBox.{step_box};

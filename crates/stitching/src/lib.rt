@@ -1,4 +1,6 @@
 // Where decks share a vertex (document 01, section 8, `find_stitch_points`).
+#![tactic(auto)]
+
 ghost use Rattle.std.specs.Prelude.{◌≡◌, [], ◌∷◌, ◌+◌, ◌<◌};
 ghost use Rattle.answers.specs.declared.Check.TheVariants.{Passed};
 ghost use Rattle.ship.specs.Layout.{decks_in};

@@ -1,26 +1,28 @@
 // What a seat asks of the search: which decks are open to it, and which of two heights it prefers. The definitions of the search itself
 // and the surveyor's statement are in specs/.
+#![tactic(auto)]
+
 ghost use Rattle.std.specs.Prelude.{◌≡◌, ◌<◌, length};
 ghost use Rattle.survey.specs.Wishes.{choice_of, bit_of, is_open, gap_of, nearer};
 
 use geometry::{Height, Vec2};
 
 // A seat names one deck or leaves the deck open.
-#[derive(Drop)]
+#[derive(Clone, Copy)]
 pub enum DeckChoice {
     AnyDeck,
     Named(usize),
 }
 
 // A seat has a wished height or none.
-#[derive(Drop)]
+#[derive(Clone, Copy)]
 pub enum Wish {
     NoWish,
     Wished(f32),
 }
 
 // A seat names one deck or leaves the deck open, and has a wished height or none.
-#[derive(Drop)]
+#[derive(Clone, Copy)]
 pub struct Seat {
     pub place: Vec2,
     pub choice: DeckChoice,

@@ -1,4 +1,6 @@
 // Which polygon touches which over an edge (document 01, section 8, `candidate_polygons`; the Rust's `share_an_edge`).
+#![tactic(auto)]
+
 ghost use Rattle.std.specs.Prelude.{◌≡◌, ◌<◌, length};
 ghost use Rattle.words.specs.Rows.{has};
 ghost use Rattle.ship.specs.Model.{neighbours_of, corners_of};

@@ -1,4 +1,6 @@
 // The closest place in a line towards a point (document 02, point 2): step by step, and in a step deck by deck; the first hit ends the search.
+#![tactic(auto)]
+
 ghost use Rattle.std.specs.Prelude.{◌≡◌, ◌<◌};
 ghost use Rattle.answers.specs.declared.Check.TheVariants.{Passed};
 ghost use Rattle.answers.specs.Replies.{Replied};
@@ -13,14 +15,14 @@ use geometry::Vec2;
 use hits::Hit;
 
 // A polygon at the sample of a step on a deck.
-#[derive(Drop)]
+#[derive(Clone, Copy)]
 pub struct Place {
     pub step: usize,
     pub deck: usize,
     pub polygon: usize,
 }
 
-#[derive(Drop)]
+#[derive(Clone, Copy)]
 pub enum Found {
     Nowhere,
     At(Place),

@@ -1,5 +1,7 @@
 // Which entries of the neighbour lists a removal of stitches keeps, and as what (document 01, section 8). The new file and what is proved of
 // it are in specs/.
+#![tactic(auto)]
+
 ghost use Rattle.std.specs.Prelude.{◌≡◌, ◌+◌, ◌*◌, ◌≤◌, length};
 ghost use Rattle.ship.specs.Layout.{number_size};
 ghost use Rattle.unstitched.specs.Removal.{plain_in, keeps, written_as};
@@ -8,7 +10,7 @@ ghost use Rattle.unstitched.specs.NewFile.{kept_from};
 use ship::{Blocks, NUMBER_SIZE};
 
 // Which stitches are removed: those between all decks, or those to one.
-#[derive(Drop)]
+#[derive(Clone, Copy)]
 pub enum Stitches {
     All,
     ToLayer(u8),

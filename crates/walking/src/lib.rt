@@ -1,5 +1,7 @@
 // One walk over the candidates of a step on a ship file, in their order (document 01, section 5). Who walks decides what becomes of them:
 // the run chooses one, a call writes them. Before its first step the decks are sifted, and every step looks at the lists that were kept.
+#![tactic(auto)]
+
 ghost use Rattle.std.specs.Prelude.{◌≡◌, ◌≤◌, ◌<◌, length};
 ghost use Rattle.ship.specs.Layout.{decks_in, steps_in};
 ghost use Rattle.ship.specs.Decode.{decode};
@@ -14,7 +16,7 @@ use keeping::{Kept, LISTS_SIZE};
 use survey::Seat;
 
 // Where a walk came to: a candidate, or the end of the step. With it, how many samples the turns on the way took.
-#[derive(Drop)]
+#[derive(Clone, Copy)]
 pub enum Next {
     Reached(Candidate, usize),
     Ended(usize),
