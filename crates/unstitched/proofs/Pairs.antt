@@ -1,7 +1,7 @@
 -- Laws of `pairs`: they are a chain, and those of lists in a row stand in a row.
 use Prim.Native.Nat.{ℕ, zero, suc, ◌+◌, ◌*◌, ◌≤◌, ◌<◌}
 use native.Mathlib.Omega.{arith}
-use mathlib.Core.Path.{◌≡◌, refl, ap, ◌∙◌}
+use mathlib.Core.Path.{◌≡◌, refl, sym, subst, ap, ◌∙◌}
 use mathlib.Core.Bool.{true}
 use mathlib.Core.List.{List, [], ◌∷◌, ◌++◌}
 use lib.ListN.{length, get_or}
@@ -43,14 +43,14 @@ pairs_chain extent (n ∷ rest) at i e =
     let z : i + 0 ≡ i = omega arith in
     let start : (extent i).start ≡ at = rw z at first.0 in
     let count : (extent i).count ≡ n = rw z at first.1 in
-    let t : at + (n + total rest) ≡ at + n + total rest = omega arith in
+    let t : at + total (n ∷ rest) ≡ at + n + total rest = omega arith in
     let later = pairs_chain extent rest (at + n) (i + 1)
     (λ j h. let a : i + suc j ≡ i + 1 + j = omega arith in
     let b : 2 * suc j ≡ suc (suc (2 * j)) = omega arith in
     let c : 2 * suc j + 1 ≡ suc (suc (2 * j + 1)) = omega arith in
     let p = e (suc j) (omega arith) in
     (rw (a, b) at p.0, rw (a, c) at p.1)) in
-    rw (start, count, eq-eqb at at refl, t) later
+    simp (start, count, eq-eqb at at refl) (subst (λ (x : ℕ). end_to_end extent x (at + n) (i + 1) (length rest) ≡ true) (sym t) later)
 
 -- ---- lists in a row
 pairs_append : (at : ℕ) (xs ys : List ℕ) → pairs at (xs ++ ys) ≡ pairs at xs ++ pairs (at + total xs) ys

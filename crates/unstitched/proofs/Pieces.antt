@@ -93,8 +93,8 @@ word {s} {at} x p =
 
 pub piece_word : {s : List ℕ} {at : ℕ} (xs : List ℕ) → Piece s at (words_of xs) → (i : ℕ) → i < length xs → u32_at s (at + 4 * i) ≡ get_or xs i 0
 unfolding joined
-piece_word [] p i h = absurd (omega arith)
-piece_word {s} {at} (x ∷ xs) p zero h = let z : at + 4 * 0 ≡ at = omega arith in rw z (word x (piece_left (bytes4 x) (words_of xs) p))
-piece_word {s} {at} (x ∷ xs) p (suc i) h =
+piece_word {at = at} [] p i h = absurd (omega arith)
+piece_word {at = at} (x ∷ xs) p zero h = let z : at + 4 * 0 ≡ at = omega arith in rw z (word x (piece_left (bytes4 x) (words_of xs) p))
+piece_word {at = at} (x ∷ xs) p (suc i) h =
     let z : at + 4 * suc i ≡ at + 4 + 4 * i = omega arith in
-    rw z (piece_word xs (rw length_bytes4 at (piece_right (bytes4 x) (words_of xs) p)) i (omega arith))
+    rw z (piece_word {at = at + 4} xs (rw length_bytes4 at (piece_right (bytes4 x) (words_of xs) p)) i (omega arith))

@@ -1,0 +1,15 @@
+use borrow.Author.Rules.{rules}
+use Rattle.numbering.proofs.Midpoints.{earlier}
+use Rattle.numbering.proofs.drops_out.Goals as goal
+
+pub reach_within-requires : goal.reach_within-requires
+reach_within-requires c = search (earlier, rules)
+
+pub returns-then-reach_within : goal.returns-then-reach_within
+returns-then-reach_within c = search (earlier, rules)
+
+pub earlier-preserved : goal.earlier-preserved
+earlier-preserved c = search (earlier, rules)
+
+pub returns : goal.returns
+returns c = search (earlier, rules)

@@ -1,0 +1,16 @@
+-- `put_numbers` meets its contract. The loop's invariant: the numbers that the walk passed are written, and the others are left.
+use mathlib.Core.Path.{◌≡◌}
+use lib.ListN.{length}
+use Rattle.keeping.specs.Lists.{near_size}
+use Rattle.walking.specs.Sees.{seen_by}
+use Rattle.walking.specs.Lists.{WalkReady}
+use Rattle.walking.specs.Walk.{left_of}
+use Rattle.numbering.proofs.NumberLoop.{Putting}
+use Rattle.numbering.proofs.put_numbers.Given as goal
+
+abbrev pub invariant-candidates : goal.invariant-candidates
+invariant-candidates l =
+    (length l.near ≡ near_size) × (WalkReady l.file l.blocked l.table l.seat l.kept × Putting l.file l.blocked l.seat l.s l.initial.list l.list l.n l.next)
+
+abbrev pub decreases-candidates : goal.decreases-candidates
+decreases-candidates l = length (left_of (seen_by l.file l.blocked l.seat) l.next)

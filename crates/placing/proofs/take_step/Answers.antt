@@ -1,0 +1,18 @@
+use borrow.Author.Rules.{rules}
+use Rattle.placing.proofs.CandidateLoop.{taking}
+use Rattle.placing.proofs.take_step.Goals as goal
+
+pub candidates-init : goal.candidates-init
+candidates-init c = search (taking, rules)
+
+pub overflow_add-result : goal.overflow_add-result
+overflow_add-result c = search (taking, rules)
+
+pub returns-in-Ended : goal.returns-in-Ended
+returns-in-Ended c = search (taking, rules)
+
+pub take-tally-requires : goal.take-tally-requires
+take-tally-requires c = search (taking, rules)
+
+pub candidates-preserved : goal.candidates-preserved
+candidates-preserved c = search (taking, rules)

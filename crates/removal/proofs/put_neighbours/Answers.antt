@@ -1,0 +1,18 @@
+use borrow.Author.Rules.{rules}
+use Rattle.removal.proofs.NeighbourLoop.{neighbours}
+use Rattle.removal.proofs.put_neighbours.Goals as goal
+
+pub entries-init : goal.entries-init
+entries-init c = search (neighbours, rules)
+
+pub put_u32-requires : goal.put_u32-requires
+put_u32-requires c = search (neighbours, rules)
+
+pub entries-preserved-then-keeps : goal.entries-preserved-then-keeps
+entries-preserved-then-keeps c = search (neighbours, rules)
+
+pub entries-preserved : goal.entries-preserved
+entries-preserved c = search (neighbours, rules)
+
+pub returns : goal.returns
+returns c = search (neighbours, rules)

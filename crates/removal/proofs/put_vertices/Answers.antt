@@ -1,0 +1,18 @@
+use borrow.Author.Rules.{rules}
+use Rattle.removal.proofs.Vertices.{vertices}
+use Rattle.removal.proofs.put_vertices.Goals as goal
+
+pub copy_part-next-requires : goal.copy_part-next-requires
+copy_part-next-requires c = search (vertices, rules)
+
+pub vertices-init : goal.vertices-init
+vertices-init c = search (vertices, rules)
+
+pub put_vertex-start-requires : goal.put_vertex-start-requires
+put_vertex-start-requires c = search (vertices, rules)
+
+pub vertices-preserved : goal.vertices-preserved
+vertices-preserved c = search (vertices, rules)
+
+pub returns : goal.returns
+returns c = search (vertices, rules)

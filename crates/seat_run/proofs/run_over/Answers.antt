@@ -1,0 +1,31 @@
+-- `run_over` meets its contract.
+use borrow.Author.Rules.{rules}
+use Rattle.seat_run.proofs.RunLoop.{running}
+use Rattle.seat_run.proofs.run_over.Goals as goal
+
+pub returns-in-No-clause-replied : goal.returns-in-No-clause-replied
+returns-in-No-clause-replied c = search (running, rules)
+
+pub returns-in-No-clause-no_decks : goal.returns-in-No-clause-no_decks
+returns-in-No-clause-no_decks c = search (running, rules)
+
+pub returns-then-not-room_for-clause-replied : goal.returns-then-not-room_for-clause-replied
+returns-then-not-room_for-clause-replied c = search (running, rules)
+
+pub returns-then-not-room_for-clause-no_decks : goal.returns-then-not-room_for-clause-no_decks
+returns-then-not-room_for-clause-no_decks c = search (running, rules)
+
+pub put_records-requires : goal.put_records-requires
+put_records-requires c = search (running, rules)
+
+pub returns-clause-replied : goal.returns-clause-replied
+returns-clause-replied c = search (running, rules)
+
+pub returns-clause-surveyed : goal.returns-clause-surveyed
+returns-clause-surveyed c = search (running, rules)
+
+pub returns-clause-unsearched : goal.returns-clause-unsearched
+returns-clause-unsearched c = search (running, rules)
+
+pub returns-clause-no_decks : goal.returns-clause-no_decks
+returns-clause-no_decks c = search (running, rules)

@@ -1,0 +1,7 @@
+-- `seats_candidate_polygons` meets its contract.
+use borrow.Author.Rules.{rules}
+use Rattle.seats.proofs.Codes.{work_codes}
+use Rattle.seats.proofs.seats_candidate_polygons.Goals as goal
+
+pub code-requires : goal.code-requires
+code-requires c = search (work_codes, rules)

@@ -1,0 +1,7 @@
+-- `seats_height` meets its contract.
+use borrow.Author.Rules.{rules}
+use Rattle.seats.proofs.Codes.{codes}
+use Rattle.seats.proofs.seats_height.Goals as goal
+
+pub code-requires : goal.code-requires
+code-requires c = search (codes, rules)

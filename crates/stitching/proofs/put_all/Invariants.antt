@@ -1,0 +1,13 @@
+-- `put_all` meets its contract. The loop's invariant: what the decks from e on count and write is left.
+use Prim.Native.Nat.{◌-◌}
+use Rattle.words.specs.Rows.{collect_all}
+use Rattle.ship.specs.Decode.{decode}
+use Rattle.stitching.specs.Points.{stitches_from, stitch_points}
+use Rattle.stitching.proofs.Putting.{Putting}
+use Rattle.stitching.proofs.put_all.Given as goal
+
+abbrev pub invariant-decks : goal.invariant-decks
+invariant-decks l = Putting (stitch_points (decode l.file)) 0 l.initial.out (collect_all (stitches_from (decode l.file)) l.e (l.decks - l.e)) l.count l.out
+
+abbrev pub decreases-decks : goal.decreases-decks
+decreases-decks l = l.decks - l.e

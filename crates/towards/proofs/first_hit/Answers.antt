@@ -1,0 +1,15 @@
+use borrow.Author.Rules.{rules}
+use Rattle.towards.proofs.Seeks.{seeking_steps}
+use Rattle.towards.proofs.first_hit.Goals as goal
+
+pub steps-init : goal.steps-init
+steps-init c = search (seeking_steps, rules)
+
+pub returns-in-At : goal.returns-in-At
+returns-in-At c = search (seeking_steps, rules)
+
+pub steps-preserved : goal.steps-preserved
+steps-preserved c = search (seeking_steps, rules)
+
+pub returns : goal.returns
+returns c = search (seeking_steps, rules)

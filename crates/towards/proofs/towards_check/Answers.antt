@@ -1,0 +1,22 @@
+-- `towards_check` meets its contract.
+use borrow.Author.Rules.{rules}
+use Rattle.towards.proofs.Asks.{asks}
+use Rattle.towards.proofs.towards_check.Goals as goal
+
+pub returns-in-No : goal.returns-in-No
+returns-in-No c = search (asks, rules)
+
+pub returns-then-not-place_in_size : goal.returns-then-not-place_in_size
+returns-then-not-place_in_size c = search (asks, rules)
+
+pub returns-then-not-place_in_size-2 : goal.returns-then-not-place_in_size-2
+returns-then-not-place_in_size-2 c = search (asks, rules)
+
+pub returns-then-not-deck_there : goal.returns-then-not-deck_there
+returns-then-not-deck_there c = search (asks, rules) depth 20
+
+pub returns-then-squared_distance : goal.returns-then-squared_distance
+returns-then-squared_distance c = search (asks, rules) depth 20
+
+pub returns : goal.returns
+returns c = search (asks, rules) depth 20
