@@ -19,7 +19,7 @@ use Rattle.ship.specs.Layout.{number_size, decks_in}
 use Rattle.ship.specs.Model.{polygon_total}
 use Rattle.ship.specs.Decode.{decode}
 use Rattle.survey.specs.declared.Seat.{Seat}
-use Rattle.survey.specs.Search.{seat_record, candidates}
+use Rattle.survey.specs.Search.{seat_record}
 use Rattle.walking.specs.Sees.{seen_by, SearchReady}
 use Rattle.walking.specs.Lists.{Sifted}
 use Rattle.calls.specs.Closest.{asked_at, closest_points}

@@ -1,6 +1,6 @@
 -- `put_decks` meets its contract. The loop's invariant: the decks before d are put.
 use Prim.Native.Nat.{◌-◌}
-use Rattle.removal.proofs.Decks.{DecksPut, decks}
+use Rattle.removal.proofs.Decks.{DecksPut}
 use Rattle.removal.proofs.put_decks.Given as goal
 
 abbrev pub invariant-decks : goal.invariant-decks

@@ -1,6 +1,6 @@
 -- `put_neighbours` meets its contract. The loop's invariant: what stays of the entries before i is put.
 use Prim.Native.Nat.{◌-◌}
-use Rattle.removal.proofs.NeighbourLoop.{NeighboursPut, neighbours}
+use Rattle.removal.proofs.NeighbourLoop.{NeighboursPut}
 use Rattle.removal.proofs.put_neighbours.Given as goal
 
 abbrev pub invariant-entries : goal.invariant-entries

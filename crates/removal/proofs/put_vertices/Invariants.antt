@@ -1,6 +1,6 @@
 -- `put_vertices` meets its contract. The loop's invariant: the vertices before i are put, and list i begins at `start`.
 use Prim.Native.Nat.{◌-◌}
-use Rattle.removal.proofs.Vertices.{VerticesPut, vertices}
+use Rattle.removal.proofs.Vertices.{VerticesPut}
 use Rattle.removal.proofs.put_vertices.Given as goal
 
 abbrev pub invariant-vertices : goal.invariant-vertices
