@@ -3,11 +3,13 @@ SHELL := bash
 .PHONY: demo test compare bench lib c-example rust-test load-sheets plan plan-test
 
 # What `rt` says of each crate goes to standard error as it comes, and what the prover says only where the check fails.
+have_rt = command -v rt >/dev/null || { echo "make: 'rt', the Rattle kit, is not on the PATH (README.md names its identity)" >&2; exit 2; }
+say_crates = awk '/^crate / { name = $$2; sub(":", "", name) } /^logic=proved/ { print "proved: " name; fflush() }'
+
 demo:
-	@command -v rt >/dev/null || { echo "make: 'rt', the Rattle kit, is not on the PATH (README.md names its identity)" >&2; exit 2; }
+	@$(have_rt)
 	@mkdir -p target
-	@rt check seatlist 2>&1 | tee target/demo.log | sed -u -n '/^rt:/p' >&2 || { grep -v ': proved$$' target/demo.log >&2; exit 1; }
-	@target/bin/seatlist < crates/seatlist/stdin
+	@{ (cd crates/seatlist && rt run < stdin) 2>&1 >&3 | tee target/demo.log | $(say_crates) >&2; } 3>&1 || { grep -v ': proved$$' target/demo.log >&2; exit 1; }
 
 test:
 	bash .ci/run
@@ -20,10 +22,10 @@ bench:
 
 # The proved library and its header, for C and Rust to link.
 lib:
-	@command -v rt >/dev/null || { echo "make: 'rt', the Rattle kit, is not on the PATH (README.md names its identity)" >&2; exit 2; }
+	@$(have_rt)
 	@mkdir -p target/lib target/include
-	@rt staticlib seats 2>&1 | tee target/lib.log | sed -u -n '/^rt:/p' >&2 || { grep -v ': proved$$' target/lib.log >&2; exit 1; }
-	@cp target/staticlib/libseats.a target/lib/libseats.a
+	@(cd crates/seats && rt lib) 2>&1 | tee target/lib.log | $(say_crates) >&2 || { grep -v ': proved$$' target/lib.log >&2; exit 1; }
+	@cp crates/seats/out/libseats.a target/lib/libseats.a
 	@cp include/seats.h target/include/seats.h
 	@echo "library: target/lib/libseats.a, header: target/include/seats.h"
 

@@ -22,7 +22,7 @@ from ship_file import ALL_ONES, blocked, seat, u32
 
 ROOT = os.path.join(os.path.dirname(os.path.abspath(__file__)), "..")
 PROGRAM = os.path.join(ROOT, "seatplan", "target", "release", "seatplan")
-SEATLIST = os.path.join(ROOT, "target", "bin", "seatlist")
+SEATLIST = os.path.join(ROOT, "crates", "seatlist", "out", "seatlist")
 FERRY = os.path.join(ROOT, "examples", "ferry")
 RANDOM_PLANS = 150
 OUTPUTS = ["ship", "seats", "records", "seatlist", "svg"]
