@@ -1,4 +1,5 @@
-// What the programs of stored cases share: how lent memory is filled before a call, the lines of an answer, the place of a query.
+// What the programs of stored cases share: how they are read, how lent memory is filled before a call, the lines of an answer, the place
+// of a query.
 // The answer's first line: `wrote` or `refused`, the number, and `kept` if the output past the answer (all of it for a refusal) is as
 // it was filled, else `altered`. Of a call that is lent a table, the same word of the table. Of a call that is lent work, one word more:
 // after an answer `zeros` if all of the work is zeros, after a refusal `untouched` if all of it is as it was filled, else `altered`. A
@@ -6,11 +7,12 @@
 // each, the lower one first.
 #![tactic(auto)]
 
-ghost use Rattle.std.specs.Prelude.{◌+◌, ◌<◌, ◌≤◌, length};
+ghost use Rattle.std.specs.Prelude.{IfOk, ◌+◌, ◌<◌, ◌≤◌, length};
 
 use answers::Answer;
 use geometry::Vec2;
-use libc::STDOUT_FILENO;
+use std::io;
+use std::io::{Read, Write};
 use words::u32_at;
 
 // What every byte of lent memory is before a call.
@@ -19,53 +21,47 @@ pub const FILL: u8 = 0xA5;
 // Bytes of a table's count.
 const COUNT_SIZE: usize = 8;
 
-// ---- lines
-pub fn print(text: &[u8]) {
-    io::write_all(STDOUT_FILENO, text);
-}
-
-pub fn print_word(n: u32) {
-    print(b" ");
-    io::print_hex(STDOUT_FILENO, n as u64, 8);
-}
-
-fn print_entry(entry: &[u8]) {
-    let mut at: usize = 0;
-    'words: while at < entry.len() {
-        if entry.len() - at < 4 {
-            return;
+// ---- input
+// Reads until the buffer is full or the input ends, and answers how many bytes it read.
+pub fn read_full<R: Read>(input: &mut R, buffer: &mut [u8]) -> io::Result<usize>
+    ensures { IfOk result (λ n. n ≤ length buffer.new) }
+{
+    let mut n: usize = 0;
+    'reads: while n < buffer.len() {
+        let more = input.read(&mut buffer[n..])?;
+        if more == 0 {
+            break;
         }
-        print_word(u32_at(entry, at));
-        at += 4;
+        n += more;
     }
-    print(b"\n");
+    Ok(n)
+}
+
+// ---- lines
+pub fn print_word<W: Write>(out: &mut W, n: u32) -> io::Result<()> {
+    write!(out, " {n:08x}")
+}
+
+fn print_entry<W: Write>(out: &mut W, entry: &[u8]) -> io::Result<()> {
+    for word in entry.chunks_exact(4) {
+        print_word(out, u32_at(word, 0))?;
+    }
+    out.write_all(b"\n")
 }
 
 // A line for each entry of `width` bytes.
-fn print_entries(entries: &[u8], width: usize)
+fn print_entries<W: Write>(out: &mut W, entries: &[u8], width: usize) -> io::Result<()>
     requires { 0 < width }
 {
-    let mut at: usize = 0;
-    'entries: while at < entries.len() {
-        if entries.len() - at < width {
-            return;
-        }
-        let next = at + width;
-        print_entry(&entries[at..next]);
-        at = next;
+    for entry in entries.chunks_exact(width) {
+        print_entry(out, entry)?;
     }
+    Ok(())
 }
 
 // Whether the bytes from `from` on are all `fill`.
 fn is_filled(bytes: &[u8], from: usize, fill: u8) -> bool {
-    let mut i = from;
-    'bytes: while i < bytes.len() {
-        if bytes[i] != fill {
-            return false;
-        }
-        i += 1;
-    }
-    true
+    bytes.iter().skip(from).all(|b| *b == fill)
 }
 
 // ---- answers
@@ -91,116 +87,100 @@ fn table_end(answer: Answer, counts: usize, room: usize) -> usize
 {
     match answer {
         Answer::Refused(_) => 0,
-        Answer::Wrote(_) => {
-            if counts > room {
-                return room;
-            }
-            counts
-        }
+        Answer::Wrote(_) => counts.min(room),
     }
 }
 
 // Whether lent memory from `end` on is as it was filled.
-fn print_kept(lent: &[u8], end: usize) {
+fn print_kept<W: Write>(out: &mut W, lent: &[u8], end: usize) -> io::Result<()> {
     if is_filled(lent, end, FILL) {
-        print(b" kept");
+        out.write_all(b" kept")
     } else {
-        print(b" altered");
+        out.write_all(b" altered")
     }
 }
 
 // The first line up to its end, for an answer that ends at `end`.
-fn print_head(answer: Answer, end: usize, out: &[u8]) {
+fn print_head<W: Write>(out: &mut W, answer: Answer, end: usize, lent: &[u8]) -> io::Result<()> {
     match answer {
-        Answer::Refused(number) => {
-            print(b"refused ");
-            io::print_decimal(STDOUT_FILENO, number as u64);
-        }
-        Answer::Wrote(count) => {
-            print(b"wrote ");
-            io::print_decimal(STDOUT_FILENO, count as u64);
-        }
+        Answer::Refused(number) => write!(out, "refused {number}")?,
+        Answer::Wrote(count) => write!(out, "wrote {count}")?,
     }
-    print_kept(out, end);
+    print_kept(out, lent, end)
 }
 
 // `unit` bytes for each that the answer counts, `width` bytes an entry.
-pub fn print_answer(answer: Answer, unit: usize, width: usize, out: &[u8])
+pub fn print_answer<W: Write>(
+    out: &mut W,
+    answer: Answer,
+    unit: usize,
+    width: usize,
+    lent: &[u8],
+) -> io::Result<()>
     requires { (0 < unit) × (0 < width) }
 {
-    let end = answer_end(answer, unit, out.len());
-    print_head(answer, end, out);
-    print(b"\n");
-    print_entries(&out[0..end], width);
+    let end = answer_end(answer, unit, lent.len());
+    print_head(out, answer, end, lent)?;
+    out.write_all(b"\n")?;
+    print_entries(out, &lent[..end], width)
 }
 
-fn print_work(answer: Answer, work: &[u8]) {
+fn print_work<W: Write>(out: &mut W, answer: Answer, work: &[u8]) -> io::Result<()> {
     match answer {
-        Answer::Refused(_) => {
-            if is_filled(work, 0, FILL) {
-                return print(b" untouched\n");
-            }
-        }
-        Answer::Wrote(_) => {
-            if is_filled(work, 0, 0) {
-                return print(b" zeros\n");
-            }
-        }
+        Answer::Refused(_) if is_filled(work, 0, FILL) => out.write_all(b" untouched\n"),
+        Answer::Wrote(_) if is_filled(work, 0, 0) => out.write_all(b" zeros\n"),
+        _ => out.write_all(b" altered\n"),
     }
-    print(b" altered\n");
 }
 
 // The same of a call that is lent work.
-pub fn print_worked(answer: Answer, width: usize, out: &[u8], work: &[u8])
+pub fn print_worked<W: Write>(
+    out: &mut W,
+    answer: Answer,
+    width: usize,
+    lent: &[u8],
+    work: &[u8],
+) -> io::Result<()>
     requires { 0 < width }
 {
-    let end = answer_end(answer, width, out.len());
-    print_head(answer, end, out);
-    print_work(answer, work);
-    print_entries(&out[0..end], width);
+    let end = answer_end(answer, width, lent.len());
+    print_head(out, answer, end, lent)?;
+    print_work(out, answer, work)?;
+    print_entries(out, &lent[..end], width)
 }
 
 // The same of a call that is lent a table too, of which an answer takes `counts` bytes.
-pub fn print_tabled(
+pub fn print_tabled<W: Write>(
+    out: &mut W,
     answer: Answer,
     width: usize,
     counts: usize,
-    out: &[u8],
+    lent: &[u8],
     table: &[u8],
     work: &[u8],
-)
+) -> io::Result<()>
     requires { 0 < width }
 {
-    let end = answer_end(answer, width, out.len());
+    let end = answer_end(answer, width, lent.len());
     let counted = table_end(answer, counts, table.len());
-    print_head(answer, end, out);
-    print_kept(table, counted);
-    print_work(answer, work);
-    print_entries(&out[0..end], width);
-    print_entries(&table[0..counted], COUNT_SIZE);
+    print_head(out, answer, end, lent)?;
+    print_kept(out, table, counted)?;
+    print_work(out, answer, work)?;
+    print_entries(out, &lent[..end], width)?;
+    print_entries(out, &table[..counted], COUNT_SIZE)
 }
 
 // ---- places
-// What two words say of a place.
-#[derive(Clone, Copy)]
-pub enum Place {
-    At(Vec2),
-    Bad,
-}
-
-// The place whose x and y stand at `at`. No float can be made of a NaN's pattern.
-pub fn place_at(rest: &[u8], at: usize) -> Place
+// The place whose x and y stand at `at`, if it is one. No float can be made of a NaN's pattern.
+pub fn place_at(rest: &[u8], at: usize) -> Option<Vec2>
     requires { at + 8 ≤ length rest.now }
 {
     let x = u32_at(rest, at);
     let y = u32_at(rest, at + 4);
-    if x % 0x80000000 > 0x7F800000 {
-        return Place::Bad;
+    if x % 0x8000_0000 > 0x7F80_0000 || y % 0x8000_0000 > 0x7F80_0000 {
+        return None;
     }
-    if y % 0x80000000 > 0x7F800000 {
-        return Place::Bad;
-    }
-    Place::At(Vec2 {
+    Some(Vec2 {
         x: f32::from_bits(x),
         y: f32::from_bits(y),
     })

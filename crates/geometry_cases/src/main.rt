@@ -6,8 +6,10 @@
 ghost use Rattle.std.specs.Prelude.{◌≡◌, ◌+◌, ◌*◌, ◌<◌, ◌≤◌, length};
 ghost use Rattle.ring.specs.Table.{directions};
 
+use cases::print_word;
 use geometry::{EdgeSide, EdgeTest, Height, HeightSum, Vec2};
-use libc::{STDIN_FILENO, STDOUT_FILENO};
+use std::io;
+use std::io::Write;
 
 // What a case's function says.
 #[derive(Clone, Copy)]
@@ -17,13 +19,6 @@ enum Answer {
     Number(u32),
     Float(f32),
     Point(Vec2),
-}
-
-// The number of a word, if it is one.
-#[derive(Clone, Copy)]
-enum Word {
-    Number(u32),
-    Bad,
 }
 
 // How many words a function's case has, and 0 for a letter that is no function.
@@ -50,24 +45,22 @@ fn digit(b: u8) -> u32 {
     }
 }
 
-// The word at `at`: a space and 8 digits.
-fn word_at(line: &[u8], at: usize) -> Word
+// The number of the word at `at`, if it is one: a space and 8 digits.
+fn word_at(line: &[u8], at: usize) -> Option<u32>
     requires { at + 9 ≤ length line.now }
 {
     if line[at] != b' ' {
-        return Word::Bad;
+        return None;
     }
     let mut n: u32 = 0;
-    let mut k: usize = 1;
-    while k < 9 {
+    for k in 1..9 {
         let d = digit(line[at + k]);
         if d > 15 {
-            return Word::Bad;
+            return None;
         }
         n = n << 4 | d;
-        k += 1;
     }
-    Word::Number(n)
+    Some(n)
 }
 
 // Reads the words of a line, each as a whole number and as a float. A word that is a NaN's pattern is refused: no function takes it,
@@ -75,17 +68,15 @@ fn word_at(line: &[u8], at: usize) -> Word
 fn read_words(line: &[u8], count: usize, whole: &mut [u32; 8], real: &mut [f32; 8]) -> bool
     requires { (count ≤ 8) × (1 + 9 * count ≤ length line.now) }
 {
-    let mut k: usize = 0;
-    while k < count {
-        let Word::Number(n) = word_at(line, 1 + 9 * k) else {
+    for k in 0..count {
+        let Some(n) = word_at(line, 1 + 9 * k) else {
             return false;
         };
-        if n % 0x80000000 > 0x7F800000 {
+        if n % 0x8000_0000 > 0x7F80_0000 {
             return false;
         }
         whole[k] = n;
         real[k] = f32::from_bits(n);
-        k += 1;
     }
     true
 }
@@ -161,9 +152,7 @@ fn mean(count: u32, real: &[f32; 8]) -> Answer {
         return Answer::Bad;
     }
     let mut sum = HeightSum::first(real[1]);
-    let mut k: usize = 1;
-    while k < count as usize {
-        k += 1;
+    for k in 2..count as usize + 1 {
         sum = sum.plus(real[k]);
     }
     Answer::Float(sum.mean())
@@ -174,7 +163,7 @@ fn square_root(bits: u32) -> Answer {
     if bits < 1 {
         return Answer::Bad;
     }
-    if bits >= 0x7F800000 {
+    if bits >= 0x7F80_0000 {
         return Answer::Bad;
     }
     Answer::Float(root::sqrt(f32::from_bits(bits)))
@@ -235,46 +224,37 @@ fn line_answer(t: &[i32; 2432], line: &[u8]) -> Answer
     case_answer(t, letter, &whole, &real)
 }
 
-fn print(text: &[u8]) {
-    io::write_all(STDOUT_FILENO, text);
-}
-
-fn print_word(n: u32) {
-    print(b" ");
-    io::print_hex(STDOUT_FILENO, n as u64, 8);
-}
-
 // The bit pattern of a NaN cannot be asked for; a NaN is what does not equal itself.
-fn print_float(x: f32) {
+fn print_float<W: Write>(out: &mut W, x: f32) -> io::Result<()> {
     if x == x {
-        print_word(f32::to_bits(x));
+        print_word(out, x.to_bits())
     } else {
-        print(b" nan");
+        out.write_all(b" nan")
     }
 }
 
-fn print_answer(letter: u8, a: Answer) {
+fn print_answer<W: Write>(out: &mut W, letter: u8, a: Answer) -> io::Result<()> {
     match a {
-        Answer::Bad => print(b"bad"),
+        Answer::Bad => return out.write_all(b"bad\n"),
         Answer::None => {
-            print(&[letter]);
-            print(b" -");
+            out.write_all(&[letter])?;
+            out.write_all(b" -")?;
         }
         Answer::Number(n) => {
-            print(&[letter]);
-            print_word(n);
+            out.write_all(&[letter])?;
+            print_word(out, n)?;
         }
         Answer::Float(x) => {
-            print(&[letter]);
-            print_float(x);
+            out.write_all(&[letter])?;
+            print_float(out, x)?;
         }
         Answer::Point(p) => {
-            print(&[letter]);
-            print_float(p.x);
-            print_float(p.y);
+            out.write_all(&[letter])?;
+            print_float(out, p.x)?;
+            print_float(out, p.y)?;
         }
     }
-    print(b"\n");
+    out.write_all(b"\n")
 }
 
 // Past the newline of the line that starts at `at`, or the end of the text.
@@ -282,31 +262,29 @@ fn line_end(text: &[u8], at: usize) -> usize
     requires { at < length text.now }
     ensures { (at < result) × (result ≤ length text.now) }
 {
-    let mut i = at;
-    while i < text.len() {
-        let b = text[i];
-        i += 1;
-        if b == b'\n' {
-            return i;
+    for i in at..text.len() {
+        if text[i] == b'\n' {
+            return i + 1;
         }
     }
-    i
+    text.len()
 }
 
-fn print_answers(t: &[i32; 2432], text: &[u8])
+fn print_answers<W: Write>(out: &mut W, t: &[i32; 2432], text: &[u8]) -> io::Result<()>
     requires { t.now ≡ directions }
 {
-    let mut at: usize = 0;
-    while at < text.len() {
-        let next = line_end(text, at);
-        print_answer(text[at], line_answer(t, &text[at..next]));
-        at = next;
+    let mut rest = text;
+    while !rest.is_empty() {
+        let end = line_end(rest, 0);
+        print_answer(out, rest[0], line_answer(t, &rest[..end]))?;
+        rest = &rest[end..];
     }
+    Ok(())
 }
 
-fn main() {
-    let mut text = io::large_buffer();
-    let n = io::read_full(STDIN_FILENO, &mut text);
-    let t = ring::table::DIRECTIONS;
-    print_answers(&t, &text[..n]);
+// An input that does not fit is cut: too few lines show it.
+fn main(rt: HostRuntime) -> io::Result<()> {
+    let mut buffer = [0u8; 65536];
+    let n = cases::read_full(&mut rt.stdin(), &mut buffer)?;
+    print_answers(&mut rt.stdout(), &ring::all_directions(), &buffer[..n])
 }

@@ -10,12 +10,13 @@
 // is read.
 #![tactic(auto)]
 
-ghost use Rattle.std.specs.Prelude.{◌≤◌, length};
+ghost use Rattle.std.specs.Prelude.{IfOk, IfSome, ◌<◌, ◌≤◌, length};
 
-use cases::{FILL, Place, place_at, print, print_answer, print_word, print_worked};
+use cases::{FILL, place_at, print_answer, print_word, print_worked};
 use geometry::Vec2;
-use libc::STDOUT_FILENO;
 use locating::Location;
+use std::io;
+use std::io::Write;
 use words::{size_at, u32_at};
 
 const HEAD: usize = 36;
@@ -33,84 +34,117 @@ struct Query {
 }
 
 // ---- the calls, with their lines
-fn location(file: &[u8], p: Vec2, deck: u32) {
+fn location<W: Write>(out: &mut W, file: &[u8], p: Vec2, deck: u32) -> io::Result<()> {
     match locating::get_point_location(file, p, deck) {
-        Location::Refused(number) => {
-            print(b"refused ");
-            io::print_decimal(STDOUT_FILENO, number as u64);
-        }
+        Location::Refused(number) => write!(out, "refused {number}")?,
         Location::Found(polygon) => {
-            print(b"found");
-            print_word(polygon);
+            out.write_all(b"found")?;
+            print_word(out, polygon)?;
         }
     }
-    print(b"\n");
+    out.write_all(b"\n")
 }
 
-fn point_layer(file: &[u8], p: Vec2, deck: u32, out: &mut [u8]) {
-    let answer = locating::get_point_layer(file, p, deck, out);
-    print_answer(answer, 4, 4, out);
+fn point_layer<W: Write>(
+    out: &mut W,
+    file: &[u8],
+    p: Vec2,
+    deck: u32,
+    lent: &mut [u8],
+) -> io::Result<()> {
+    let answer = locating::get_point_layer(file, p, deck, lent);
+    print_answer(out, answer, 4, 4, lent)
 }
 
 // Whether there is a point to go towards.
-fn point_towards(file: &[u8], q: Query, end: &[u8], out: &mut [u8]) -> bool {
+fn point_towards<W: Write>(
+    out: &mut W,
+    file: &[u8],
+    q: Query,
+    end: &[u8],
+    lent: &mut [u8],
+) -> io::Result<bool> {
     if end.len() != 8 {
-        return false;
+        return Ok(false);
     }
-    let Place::At(towards) = place_at(end, 0) else {
-        return false;
+    let Some(towards) = place_at(end, 0) else {
+        return Ok(false);
     };
-    let answer = towards::get_closest_point_towards(file, q.p, towards, q.deck, out);
-    print_answer(answer, 12, 12, out);
-    true
+    let answer = towards::get_closest_point_towards(file, q.p, towards, q.deck, lent);
+    print_answer(out, answer, 12, 12, lent)?;
+    Ok(true)
 }
 
-fn polygons(file: &[u8], q: Query, blocked: &[u8], out: &mut [u8], work: &mut [u8]) {
-    let answer = candidates::candidate_polygons(file, q.p, q.deck, q.number, blocked, out, work);
-    print_worked(answer, 4, out, work);
+fn polygons<W: Write>(
+    out: &mut W,
+    file: &[u8],
+    q: Query,
+    blocked: &[u8],
+    lent: &mut [u8],
+    work: &mut [u8],
+) -> io::Result<()> {
+    let answer = candidates::candidate_polygons(file, q.p, q.deck, q.number, blocked, lent, work);
+    print_worked(out, answer, 4, lent, work)
 }
 
-fn labels(file: &[u8], deck: u32, out: &mut [u8], work: &mut [u8]) {
-    let answer = islands::bake_islands_detection(file, deck, out, work);
-    print_worked(answer, 4, out, work);
+fn labels<W: Write>(
+    out: &mut W,
+    file: &[u8],
+    deck: u32,
+    lent: &mut [u8],
+    work: &mut [u8],
+) -> io::Result<()> {
+    let answer = islands::bake_islands_detection(file, deck, lent, work);
+    print_worked(out, answer, 4, lent, work)
 }
 
-fn stitch_points(file: &[u8], out: &mut [u8]) {
-    let answer = stitching::find_stitch_points(file, out);
-    print_answer(answer, 16, 16, out);
+fn stitch_points<W: Write>(out: &mut W, file: &[u8], lent: &mut [u8]) -> io::Result<()> {
+    let answer = stitching::find_stitch_points(file, lent);
+    print_answer(out, answer, 16, 16, lent)
 }
 
-fn without_stitches(file: &[u8], out: &mut [u8]) {
-    let answer = removal::remove_stitches(file, out);
-    print_answer(answer, 1, 4, out);
+fn without_stitches<W: Write>(out: &mut W, file: &[u8], lent: &mut [u8]) -> io::Result<()> {
+    let answer = removal::remove_stitches(file, lent);
+    print_answer(out, answer, 1, 4, lent)
 }
 
-fn without_stitches_to(file: &[u8], layer: u8, out: &mut [u8]) {
-    let answer = removal::remove_stitches_to_layer(file, layer, out);
-    print_answer(answer, 1, 4, out);
+fn without_stitches_to<W: Write>(
+    out: &mut W,
+    file: &[u8],
+    layer: u8,
+    lent: &mut [u8],
+) -> io::Result<()> {
+    let answer = removal::remove_stitches_to_layer(file, layer, lent);
+    print_answer(out, answer, 1, 4, lent)
 }
 
 // ---- the cases
 // Whether the query is one.
-fn run(q: Query, file: &[u8], blocked: &[u8], out: &mut [u8], work: &mut [u8]) -> bool {
-    let call = q.call;
-    match call {
-        b'P' => location(file, q.p, q.deck),
-        b'L' => point_layer(file, q.p, q.deck, out),
-        b'C' => polygons(file, q, blocked, out, work),
-        b'I' => labels(file, q.deck, out, work),
-        b'S' => stitch_points(file, out),
-        b'R' => without_stitches(file, out),
+fn run<W: Write>(
+    out: &mut W,
+    q: Query,
+    file: &[u8],
+    blocked: &[u8],
+    lent: &mut [u8],
+    work: &mut [u8],
+) -> io::Result<bool> {
+    match q.call {
+        b'P' => location(out, file, q.p, q.deck)?,
+        b'L' => point_layer(out, file, q.p, q.deck, lent)?,
+        b'C' => polygons(out, file, q, blocked, lent, work)?,
+        b'I' => labels(out, file, q.deck, lent, work)?,
+        b'S' => stitch_points(out, file, lent)?,
+        b'R' => without_stitches(out, file, lent)?,
         b'T' => {
             if q.number > 255 {
-                return false;
+                return Ok(false);
             }
-            without_stitches_to(file, q.number as u8, out)
+            without_stitches_to(out, file, q.number as u8, lent)?
         }
-        b'D' => return point_towards(file, q, blocked, out),
-        _ => return false,
+        b'D' => return point_towards(out, file, q, blocked, lent),
+        _ => return Ok(false),
     }
-    true
+    Ok(true)
 }
 
 fn query_at(rest: &[u8], p: Vec2) -> Query
@@ -118,58 +152,55 @@ fn query_at(rest: &[u8], p: Vec2) -> Query
 {
     Query {
         call: rest[0],
-        p: p,
+        p,
         deck: u32_at(rest, 20),
         number: u32_at(rest, 24),
     }
 }
 
-// Takes the case at the start of `rest`, and answers how many bytes it has, or 0 if it is none.
-fn case(rest: &[u8]) -> usize
-    ensures { result ≤ length rest.now }
+// Takes the case at the start of `rest`, and answers how many bytes it has, or none if it is no case.
+fn case<W: Write>(out: &mut W, rest: &[u8]) -> io::Result<Option<usize>>
+    ensures { IfOk result (λ found. IfSome found (λ n. (0 < n) × (n ≤ length rest.now))) }
 {
     if rest.len() < HEAD {
-        return 0;
+        return Ok(None);
     }
     let file_end = HEAD + size_at(rest, 4);
     let end = file_end + size_at(rest, 8);
     let room = size_at(rest, 28);
     let work_length = size_at(rest, 32);
-    if end > rest.len() {
-        return 0;
+    if end > rest.len() || room > MOST_LENT || work_length > MOST_LENT {
+        return Ok(None);
     }
-    if room > MOST_LENT || work_length > MOST_LENT {
-        return 0;
-    }
-    let Place::At(p) = place_at(rest, 12) else {
-        return 0;
+    let Some(p) = place_at(rest, 12) else {
+        return Ok(None);
     };
     let q = query_at(rest, p);
     let file = &rest[HEAD..file_end];
     let blocked = &rest[file_end..end];
-    let mut out = [FILL; MOST_LENT];
+    let mut lent = [FILL; MOST_LENT];
     let mut work = [FILL; MOST_LENT];
     if !run(
+        out,
         q,
         file,
         blocked,
-        &mut out[0..room],
-        &mut work[0..work_length],
-    ) {
-        return 0;
+        &mut lent[..room],
+        &mut work[..work_length],
+    )? {
+        return Ok(None);
     }
-    end
+    Ok(Some(end))
 }
 
 // The answers to all cases.
-pub fn print_answers(input: &[u8]) {
-    let mut at: usize = 0;
-    'cases: while at < input.len() {
-        let length = case(&input[at..]);
-        if length == 0 {
-            print(b"bad\n");
-            return;
-        }
-        at += length;
+pub fn print_answers<W: Write>(out: &mut W, input: &[u8]) -> io::Result<()> {
+    let mut rest = input;
+    while !rest.is_empty() {
+        let Some(length) = case(out, rest)? else {
+            return out.write_all(b"bad\n");
+        };
+        rest = &rest[length..];
     }
+    Ok(())
 }

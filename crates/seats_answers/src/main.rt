@@ -1,11 +1,11 @@
 // Runs stored cases with the Rust's answers, which `compare/run answers` makes.
 #![tactic(auto)]
 
-use libc::STDIN_FILENO;
+use std::io;
 
 // An input that does not fit is cut: `bad`, or too few lines, shows it.
-fn main() {
+fn main(rt: HostRuntime) -> io::Result<()> {
     let mut buffer = [0u8; 262144];
-    let n = io::read_full(STDIN_FILENO, &mut buffer);
-    seats_replay::print_answers(&buffer[..n]);
+    let n = cases::read_full(&mut rt.stdin(), &mut buffer)?;
+    seats_replay::print_answers(&mut rt.stdout(), &buffer[..n])
 }

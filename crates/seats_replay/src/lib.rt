@@ -7,13 +7,15 @@
 // The answer's lines are those of the crate `cases`. What is no case gives the one word `bad`, and nothing after it is read.
 #![tactic(auto)]
 
-ghost use Rattle.std.specs.Prelude.{◌<◌, ◌≤◌, length};
+ghost use Rattle.std.specs.Prelude.{IfOk, IfSome, ◌<◌, ◌≤◌, length};
 ghost use Rattle.keeping.specs.Lists.{ListsRoom};
 
 use answers::Answer;
-use cases::{FILL, Place, place_at, print, print_answer, print_tabled};
+use cases::{FILL, place_at, print_answer, print_tabled};
 use geometry::Vec2;
 use keeping::LISTS_SIZE;
+use std::io;
+use std::io::Write;
 use words::{size_at, u32_at};
 
 const MOST_OUTPUT: usize = 4096;
@@ -27,21 +29,6 @@ const KEPT_SHORT: usize = 771;
 const MOST_LENT: usize = 16384;
 
 // ---- the calls, with their lines
-// Whether two outputs have the same bytes.
-fn same(a: &[u8], b: &[u8]) -> bool {
-    if a.len() != b.len() {
-        return false;
-    }
-    let mut i: usize = 0;
-    'bytes: while i < a.len() {
-        if a[i] != b[i] {
-            return false;
-        }
-        i += 1;
-    }
-    true
-}
-
 fn same_answer(a: Answer, b: Answer) -> bool {
     match a {
         Answer::Wrote(n) => match b {
@@ -55,113 +42,152 @@ fn same_answer(a: Answer, b: Answer) -> bool {
     }
 }
 
-// The run once more, over other arrays for its kept lists. A line says so where anything is other than it was.
+// The run once more, over other arrays for its kept lists: whether everything is as it was.
 fn run_again(
     file: &[u8],
     blocked: &[u8],
     seats: &[u8],
-    out: &[u8],
+    lent: &[u8],
     first: Answer,
     again: &mut [u8],
     kept: &mut [u32],
     near: &mut [u32],
-)
+) -> bool
     requires { ListsRoom kept.old }
 {
     let answer = seat_run::run_over(file, blocked, seats, again, kept, near);
-    if !same_answer(answer, first) || !same(again, out) {
-        print(b"other with short lists\n");
-    }
+    same_answer(answer, first) && *again == *lent
 }
 
-// Arrays with room for n numbers, so that the lists overflow.
-fn run_short(file: &[u8], blocked: &[u8], seats: &[u8], out: &[u8], first: Answer, n: usize)
-    requires { (length out.now ≤ 4096) × (n ≤ 3) }
+// Arrays with room for n numbers, so that the lists overflow. A line says so where anything is other than it was.
+fn run_short<W: Write>(
+    out: &mut W,
+    file: &[u8],
+    blocked: &[u8],
+    seats: &[u8],
+    lent: &[u8],
+    first: Answer,
+    n: usize,
+) -> io::Result<()>
+    requires { (length lent.now ≤ 4096) × (n ≤ 3) }
 {
     let mut kept = [0u32; KEPT_SHORT];
     let mut near = [0u32; MOST_SHORT];
     let mut again = [FILL; MOST_OUTPUT];
-    let room = out.len();
+    let room = lent.len();
     let end = LISTS_SIZE + n;
-    run_again(
+    if !run_again(
         file,
         blocked,
         seats,
-        out,
+        lent,
         first,
-        &mut again[0..room],
-        &mut kept[0..end],
-        &mut near[0..n],
-    );
+        &mut again[..room],
+        &mut kept[..end],
+        &mut near[..n],
+    ) {
+        out.write_all(b"other with short lists\n")?;
+    }
+    Ok(())
 }
 
-fn run(file: &[u8], blocked: &[u8], seats: &[u8], out: &mut [u8])
-    requires { length out.old ≤ 4096 }
+fn run<W: Write>(
+    out: &mut W,
+    file: &[u8],
+    blocked: &[u8],
+    seats: &[u8],
+    lent: &mut [u8],
+) -> io::Result<()>
+    requires { length lent.old ≤ 4096 }
 {
-    let answer = seat_run::run(file, blocked, seats, out);
-    run_short(file, blocked, seats, out, answer, 0);
-    run_short(file, blocked, seats, out, answer, 1);
-    run_short(file, blocked, seats, out, answer, 3);
-    print_answer(answer, 36, 36, out);
+    let answer = seat_run::run(file, blocked, seats, lent);
+    run_short(out, file, blocked, seats, lent, answer, 0)?;
+    run_short(out, file, blocked, seats, lent, answer, 1)?;
+    run_short(out, file, blocked, seats, lent, answer, 3)?;
+    print_answer(out, answer, 36, 36, lent)
 }
 
-fn run_loads(
+fn run_loads<W: Write>(
+    out: &mut W,
     file: &[u8],
     blocked: &[u8],
     seats: &[u8],
     sheet: usize,
-    out: &mut [u8],
+    lent: &mut [u8],
     table: &mut [u8],
     work: &mut [u8],
-) {
-    let answer = loads::run_loads(file, blocked, seats, out, table, work);
-    print_tabled(answer, 36, sheet, out, table, work);
+) -> io::Result<()> {
+    let answer = loads::run_loads(file, blocked, seats, lent, table, work);
+    print_tabled(out, answer, 36, sheet, lent, table, work)
 }
 
-fn closest_points(file: &[u8], blocked: &[u8], p: Vec2, deck: u32, out: &mut [u8]) {
-    let answer = calls::get_closest_points_on_layers(file, p, deck, blocked, out);
-    print_answer(answer, 12, 12, out);
+fn closest_points<W: Write>(
+    out: &mut W,
+    file: &[u8],
+    blocked: &[u8],
+    p: Vec2,
+    deck: u32,
+    lent: &mut [u8],
+) -> io::Result<()> {
+    let answer = calls::get_closest_points_on_layers(file, p, deck, blocked, lent);
+    print_answer(out, answer, 12, 12, lent)
 }
 
-fn closest_point(file: &[u8], blocked: &[u8], p: Vec2, deck: u32, out: &mut [u8]) {
-    let answer = calls::get_closest_point_on_layers(file, p, deck, blocked, out);
-    print_answer(answer, 12, 12, out);
+fn closest_point<W: Write>(
+    out: &mut W,
+    file: &[u8],
+    blocked: &[u8],
+    p: Vec2,
+    deck: u32,
+    lent: &mut [u8],
+) -> io::Result<()> {
+    let answer = calls::get_closest_point_on_layers(file, p, deck, blocked, lent);
+    print_answer(out, answer, 12, 12, lent)
 }
 
-fn height(file: &[u8], p: Vec2, polygon: u32, out: &mut [u8]) {
-    let answer = calls::height(file, p, polygon, out);
-    print_answer(answer, 4, 4, out);
+fn height<W: Write>(
+    out: &mut W,
+    file: &[u8],
+    p: Vec2,
+    polygon: u32,
+    lent: &mut [u8],
+) -> io::Result<()> {
+    let answer = calls::height(file, p, polygon, lent);
+    print_answer(out, answer, 4, 4, lent)
 }
 
-// ---- the cases. Each function takes the case at the start of `rest`, and answers how many bytes it has, or 0 if it is none.
-fn run_case(rest: &[u8]) -> usize
-    ensures { result ≤ length rest.now }
+// ---- the cases. Each function takes the case at the start of `rest`, and answers how many bytes it has, or none if it is no case.
+fn run_case<W: Write>(out: &mut W, rest: &[u8]) -> io::Result<Option<usize>>
+    ensures { IfOk result (λ found. IfSome found (λ n. (0 < n) × (n ≤ length rest.now))) }
 {
     if rest.len() < 20 {
-        return 0;
+        return Ok(None);
     }
     let file_end = 20 + size_at(rest, 4);
     let blocked_end = file_end + size_at(rest, 8);
     let end = blocked_end + size_at(rest, 12);
     let room = size_at(rest, 16);
-    if end > rest.len() {
-        return 0;
-    }
-    if room > MOST_OUTPUT {
-        return 0;
+    if end > rest.len() || room > MOST_OUTPUT {
+        return Ok(None);
     }
     let file = &rest[20..file_end];
     let blocked = &rest[file_end..blocked_end];
-    let mut out = [FILL; MOST_OUTPUT];
-    run(file, blocked, &rest[blocked_end..end], &mut out[0..room]);
-    end
+    let mut lent = [FILL; MOST_OUTPUT];
+    run(
+        out,
+        file,
+        blocked,
+        &rest[blocked_end..end],
+        &mut lent[..room],
+    )?;
+    Ok(Some(end))
 }
 
-fn loads_case(rest: &[u8]) -> usize
-    ensures { result ≤ length rest.now }
+fn loads_case<W: Write>(out: &mut W, rest: &[u8]) -> io::Result<Option<usize>>
+    ensures { IfOk result (λ found. IfSome found (λ n. (0 < n) × (n ≤ length rest.now))) }
 {
     if rest.len() < 32 {
-        return 0;
+        return Ok(None);
     }
     let file_end = 32 + size_at(rest, 4);
     let blocked_end = file_end + size_at(rest, 8);
@@ -171,105 +197,99 @@ fn loads_case(rest: &[u8]) -> usize
     let work_length = size_at(rest, 24);
     let sheet = size_at(rest, 28);
     if end > rest.len() {
-        return 0;
+        return Ok(None);
     }
     if room > MOST_LENT || table_length > MOST_LENT || work_length > MOST_LENT {
-        return 0;
+        return Ok(None);
     }
     let file = &rest[32..file_end];
     let blocked = &rest[file_end..blocked_end];
     let seats = &rest[blocked_end..end];
-    let mut out = [FILL; MOST_LENT];
+    let mut lent = [FILL; MOST_LENT];
     let mut table = [FILL; MOST_LENT];
     let mut work = [FILL; MOST_LENT];
     run_loads(
+        out,
         file,
         blocked,
         seats,
         sheet,
-        &mut out[0..room],
-        &mut table[0..table_length],
-        &mut work[0..work_length],
-    );
-    end
+        &mut lent[..room],
+        &mut table[..table_length],
+        &mut work[..work_length],
+    )?;
+    Ok(Some(end))
 }
 
-fn closest_case(rest: &[u8], first: bool) -> usize
-    ensures { result ≤ length rest.now }
+fn closest_case<W: Write>(out: &mut W, rest: &[u8], first: bool) -> io::Result<Option<usize>>
+    ensures { IfOk result (λ found. IfSome found (λ n. (0 < n) × (n ≤ length rest.now))) }
 {
     if rest.len() < 28 {
-        return 0;
+        return Ok(None);
     }
     let file_end = 28 + size_at(rest, 4);
     let end = file_end + size_at(rest, 8);
     let deck = u32_at(rest, 20);
     let room = size_at(rest, 24);
-    if end > rest.len() {
-        return 0;
+    if end > rest.len() || room > MOST_OUTPUT {
+        return Ok(None);
     }
-    if room > MOST_OUTPUT {
-        return 0;
-    }
-    let Place::At(p) = place_at(rest, 12) else {
-        return 0;
+    let Some(p) = place_at(rest, 12) else {
+        return Ok(None);
     };
     let file = &rest[28..file_end];
     let blocked = &rest[file_end..end];
-    let mut out = [FILL; MOST_OUTPUT];
+    let mut lent = [FILL; MOST_OUTPUT];
     if first {
-        closest_point(file, blocked, p, deck, &mut out[0..room]);
+        closest_point(out, file, blocked, p, deck, &mut lent[..room])?;
     } else {
-        closest_points(file, blocked, p, deck, &mut out[0..room]);
+        closest_points(out, file, blocked, p, deck, &mut lent[..room])?;
     }
-    end
+    Ok(Some(end))
 }
 
-fn height_case(rest: &[u8]) -> usize
-    ensures { result ≤ length rest.now }
+fn height_case<W: Write>(out: &mut W, rest: &[u8]) -> io::Result<Option<usize>>
+    ensures { IfOk result (λ found. IfSome found (λ n. (0 < n) × (n ≤ length rest.now))) }
 {
     if rest.len() < 24 {
-        return 0;
+        return Ok(None);
     }
     let room = size_at(rest, 20);
-    if room > MOST_OUTPUT {
-        return 0;
-    }
     let end = 24 + size_at(rest, 4);
-    if end > rest.len() {
-        return 0;
+    if end > rest.len() || room > MOST_OUTPUT {
+        return Ok(None);
     }
     let polygon = u32_at(rest, 16);
-    let Place::At(p) = place_at(rest, 8) else {
-        return 0;
+    let Some(p) = place_at(rest, 8) else {
+        return Ok(None);
     };
-    let mut out = [FILL; MOST_OUTPUT];
-    height(&rest[24..end], p, polygon, &mut out[0..room]);
-    end
+    let mut lent = [FILL; MOST_OUTPUT];
+    height(out, &rest[24..end], p, polygon, &mut lent[..room])?;
+    Ok(Some(end))
 }
 
-fn case(rest: &[u8]) -> usize
+fn case<W: Write>(out: &mut W, rest: &[u8]) -> io::Result<Option<usize>>
     requires { 0 < length rest.now }
-    ensures { result ≤ length rest.now }
+    ensures { IfOk result (λ found. IfSome found (λ n. (0 < n) × (n ≤ length rest.now))) }
 {
     match rest[0] {
-        b'R' => run_case(rest),
-        b'L' => loads_case(rest),
-        b'P' => closest_case(rest, false),
-        b'Q' => closest_case(rest, true),
-        b'H' => height_case(rest),
-        _ => 0,
+        b'R' => run_case(out, rest),
+        b'L' => loads_case(out, rest),
+        b'P' => closest_case(out, rest, false),
+        b'Q' => closest_case(out, rest, true),
+        b'H' => height_case(out, rest),
+        _ => Ok(None),
     }
 }
 
 // The answers to all cases.
-pub fn print_answers(input: &[u8]) {
-    let mut at: usize = 0;
-    'cases: while at < input.len() {
-        let length = case(&input[at..]);
-        if length == 0 {
-            print(b"bad\n");
-            return;
-        }
-        at += length;
+pub fn print_answers<W: Write>(out: &mut W, input: &[u8]) -> io::Result<()> {
+    let mut rest = input;
+    while !rest.is_empty() {
+        let Some(length) = case(out, rest)? else {
+            return out.write_all(b"bad\n");
+        };
+        rest = &rest[length..];
     }
+    Ok(())
 }

@@ -4,50 +4,40 @@
 #![tactic(auto)]
 
 use answers::Check;
-use libc::{STDIN_FILENO, STDOUT_FILENO};
+use std::io;
+use std::io::Write;
 
-fn print(text: &[u8]) {
-    io::write_all(STDOUT_FILENO, text);
-}
-
-fn print_answer(answer: Check) {
+fn print_answer<W: Write>(out: &mut W, answer: Check) -> io::Result<()> {
     match answer {
-        Check::Passed => print(b"passed\n"),
-        Check::No(number) => {
-            print(b"no ");
-            io::print_decimal(STDOUT_FILENO, number as u64);
-            print(b"\n");
-        }
+        Check::Passed => out.write_all(b"passed\n"),
+        Check::No(number) => writeln!(out, "no {number}"),
     }
 }
 
-fn print_bad() {
-    print(b"bad\n");
+fn print_bad<W: Write>(out: &mut W) -> io::Result<()> {
+    out.write_all(b"bad\n")
 }
 
-fn print_answers(input: &[u8]) {
-    let mut at: usize = 0;
-    'cases: while at < input.len() {
-        let left = input.len() - at;
-        if left < 4 {
-            print_bad();
-            return;
+fn print_answers<W: Write>(out: &mut W, input: &[u8]) -> io::Result<()> {
+    let mut rest = input;
+    while !rest.is_empty() {
+        if rest.len() < 4 {
+            return print_bad(out);
         }
-        let length = words::size_at(input, at);
-        if length > left - 4 {
-            print_bad();
-            return;
+        let length = words::size_at(rest, 0);
+        if length > rest.len() - 4 {
+            return print_bad(out);
         }
-        let start = at + 4;
-        let end = start + length;
-        print_answer(ship::first_no(&input[start..end]));
-        at = end;
+        let end = 4 + length;
+        print_answer(out, ship::first_no(&rest[4..end]))?;
+        rest = &rest[end..];
     }
+    Ok(())
 }
 
 // An input that does not fit is cut: `bad`, or too few lines, shows it.
-fn main() {
+fn main(rt: HostRuntime) -> io::Result<()> {
     let mut buffer = [0u8; 262144];
-    let n = io::read_full(STDIN_FILENO, &mut buffer);
-    print_answers(&buffer[..n]);
+    let n = cases::read_full(&mut rt.stdin(), &mut buffer)?;
+    print_answers(&mut rt.stdout(), &buffer[..n])
 }
