@@ -1,5 +1,4 @@
-// What the programs of stored cases share: how they are read, how lent memory is filled before a call, the lines of an answer, the place
-// of a query.
+// What the programs of stored cases share: how lent memory is filled before a call, the lines of an answer, the place of a query.
 // The answer's first line: `wrote` or `refused`, the number, and `kept` if the output past the answer (all of it for a refusal) is as
 // it was filled, else `altered`. Of a call that is lent a table, the same word of the table. Of a call that is lent work, one word more:
 // after an answer `zeros` if all of the work is zeros, after a refusal `untouched` if all of it is as it was filled, else `altered`. A
@@ -7,12 +6,11 @@
 // each, the lower one first.
 #![tactic(auto)]
 
-ghost use Rattle.std.specs.Prelude.{IfOk, ◌+◌, ◌<◌, ◌≤◌, length};
+ghost use Rattle.std.specs.Prelude.{◌+◌, ◌<◌, ◌≤◌, length};
 
 use answers::Answer;
 use geometry::Vec2;
-use std::io;
-use std::io::{Read, Write};
+use std::io::{self, Write};
 use words::u32_at;
 
 // What every byte of lent memory is before a call.
@@ -20,22 +18,6 @@ pub const FILL: u8 = 0xA5;
 
 // Bytes of a table's count.
 const COUNT_SIZE: usize = 8;
-
-// ---- input
-// Reads until the buffer is full or the input ends, and answers how many bytes it read.
-pub fn read_full<R: Read>(input: &mut R, buffer: &mut [u8]) -> io::Result<usize>
-    ensures { IfOk result (λ n. n ≤ length buffer.new) }
-{
-    let mut n: usize = 0;
-    'reads: while n < buffer.len() {
-        let more = input.read(&mut buffer[n..])?;
-        if more == 0 {
-            break;
-        }
-        n += more;
-    }
-    Ok(n)
-}
 
 // ---- lines
 pub fn print_word<W: Write>(out: &mut W, n: u32) -> io::Result<()> {

@@ -8,8 +8,7 @@ ghost use Rattle.ring.specs.Table.{directions};
 
 use cases::print_word;
 use geometry::{EdgeSide, EdgeTest, Height, HeightSum, Vec2};
-use std::io;
-use std::io::Write;
+use std::io::{self, Write};
 
 // What a case's function says.
 #[derive(Clone, Copy)]
@@ -257,12 +256,12 @@ fn print_answer<W: Write>(out: &mut W, letter: u8, a: Answer) -> io::Result<()> 
     out.write_all(b"\n")
 }
 
-// Past the newline of the line that starts at `at`, or the end of the text.
-fn line_end(text: &[u8], at: usize) -> usize
-    requires { at < length text.now }
-    ensures { (at < result) × (result ≤ length text.now) }
+// Past the newline of the first line, or the end of the text.
+fn line_end(text: &[u8]) -> usize
+    requires { 0 < length text.now }
+    ensures { (0 < result) × (result ≤ length text.now) }
 {
-    for i in at..text.len() {
+    for i in 0..text.len() {
         if text[i] == b'\n' {
             return i + 1;
         }
@@ -275,16 +274,16 @@ fn print_answers<W: Write>(out: &mut W, t: &[i32; 2432], text: &[u8]) -> io::Res
 {
     let mut rest = text;
     while !rest.is_empty() {
-        let end = line_end(rest, 0);
+        let end = line_end(rest);
         print_answer(out, rest[0], line_answer(t, &rest[..end]))?;
         rest = &rest[end..];
     }
     Ok(())
 }
 
-// An input that does not fit is cut: too few lines show it.
+// An input that does not fit is cut: `bad`, or too few lines, shows it.
 fn main(rt: HostRuntime) -> io::Result<()> {
     let mut buffer = [0u8; 65536];
-    let n = cases::read_full(&mut rt.stdin(), &mut buffer)?;
+    let n = reading::read_full(&mut rt.stdin(), &mut buffer)?;
     print_answers(&mut rt.stdout(), &ring::all_directions(), &buffer[..n])
 }

@@ -15,8 +15,7 @@ ghost use Rattle.std.specs.Prelude.{IfOk, IfSome, ◌<◌, ◌≤◌, length};
 use cases::{FILL, place_at, print_answer, print_word, print_worked};
 use geometry::Vec2;
 use locating::Location;
-use std::io;
-use std::io::Write;
+use std::io::{self, Write};
 use words::{size_at, u32_at};
 
 const HEAD: usize = 36;

@@ -14,8 +14,7 @@ use answers::Answer;
 use cases::{FILL, place_at, print_answer, print_tabled};
 use geometry::Vec2;
 use keeping::LISTS_SIZE;
-use std::io;
-use std::io::Write;
+use std::io::{self, Write};
 use words::{size_at, u32_at};
 
 const MOST_OUTPUT: usize = 4096;

@@ -4,8 +4,7 @@
 #![tactic(auto)]
 
 use answers::Check;
-use std::io;
-use std::io::Write;
+use std::io::{self, Write};
 
 fn print_answer<W: Write>(out: &mut W, answer: Check) -> io::Result<()> {
     match answer {
@@ -38,6 +37,6 @@ fn print_answers<W: Write>(out: &mut W, input: &[u8]) -> io::Result<()> {
 // An input that does not fit is cut: `bad`, or too few lines, shows it.
 fn main(rt: HostRuntime) -> io::Result<()> {
     let mut buffer = [0u8; 262144];
-    let n = cases::read_full(&mut rt.stdin(), &mut buffer)?;
+    let n = reading::read_full(&mut rt.stdin(), &mut buffer)?;
     print_answers(&mut rt.stdout(), &buffer[..n])
 }
