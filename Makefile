@@ -4,7 +4,7 @@ SHELL := bash
 
 # What `rt` says of each crate goes to standard error as it comes, and what the prover says only where the check fails.
 have_rt = command -v rt >/dev/null || { echo "make: 'rt', the Rattle kit, is not on the PATH (README.md names its identity)" >&2; exit 2; }
-say_crates = awk '/^crate / { name = $$2; sub(":", "", name) } /^logic=proved/ { print "proved: " name; fflush() }'
+say_crates = sed -u -n -e '/^crate /{s/^crate \([a-z_0-9]*\):.*/proved: \1/;h;}' -e '/^logic=proved/{g;p;}'
 
 demo:
 	@$(have_rt)
