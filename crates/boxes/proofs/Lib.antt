@@ -5,5 +5,4 @@ pub mod Exactness
 pub mod Corners
 pub mod Polygons
 pub mod Samples
-pub mod Tests
 pub mod Examples

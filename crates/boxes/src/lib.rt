@@ -9,14 +9,14 @@ ghost use Rattle.boxes.specs.StepBox.{step_box};
 use geometry::Vec2;
 
 // A box, by the corner of its least coordinates and the one of its greatest, ends included.
-#[derive(Clone, Copy)]
+#[derive(Clone, Copy, Debug, PartialEq)]
 pub struct BoundingBox {
     pub low: Vec2,
     pub high: Vec2,
 }
 
 // What an edge says of the polygon test over a whole box: Outside at every point, Inside at none, or neither is known.
-#[derive(Clone, Copy)]
+#[derive(Clone, Copy, Debug, PartialEq, Eq)]
 pub enum BoxTest {
     Never,
     Next,
@@ -31,18 +31,20 @@ fn larger_end(z: f32, low: f32, high: f32) -> f32
 }
 
 // The cross product of the edge at the corner of the box where it is largest.
+#[tactic(auto, unfolding(crate::specs::Box::largest_cross))]
 fn largest_cross(bounds: BoundingBox, a: Vec2, b: Vec2) -> f32
     ensures { result ≡ largest_cross bounds a b }
 {
-    let edge = geometry::sub(b, a);
+    let edge = b - a;
     let corner = Vec2 {
         x: larger_end(edge.y, bounds.high.x, bounds.low.x),
         y: larger_end(edge.x, bounds.low.y, bounds.high.y),
     };
-    geometry::perp_dot(edge, geometry::sub(corner, a))
+    geometry::perp_dot(edge, corner - a)
 }
 
 // Whether no number from low to high is in the range from a to b, widened as the edge's box is.
+#[tactic(auto, unfolding(crate::specs::Box::is_apart))]
 fn is_apart(low: f32, high: f32, a: f32, b: f32) -> bool
     ensures { result ≡ is_apart low high a b }
 {
@@ -50,6 +52,7 @@ fn is_apart(low: f32, high: f32, a: f32, b: f32) -> bool
 }
 
 // The edge from a to b over a box of points.
+#[tactic(auto, unfolding(crate::specs::Box::box_test_of))]
 pub fn box_test(bounds: BoundingBox, a: Vec2, b: Vec2) -> BoxTest
     ensures { result ≡ box_test_of bounds a b }
 {
@@ -66,6 +69,7 @@ pub fn box_test(bounds: BoundingBox, a: Vec2, b: Vec2) -> BoxTest
 }
 
 // The box that holds every sample of step s around p, and of every step before it.
+#[tactic(auto, unfolding(crate::specs::StepBox::step_box))]
 pub fn step_box(p: Vec2, reach: f32, s: usize) -> BoundingBox
     requires { s < 16 }
     ensures { result ≡ step_box p reach s }

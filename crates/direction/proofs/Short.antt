@@ -15,7 +15,7 @@ use lib.Ieee.Exact.{HasValue}
 use lib.Ieee.Scale.{grid, finite, round_same}
 use lib.Ieee.Positive.{num, den, den_pos, positive, value_pos, value→cross, first_pos}
 use Rattle.geometry.specs.declared.Vec2.{Vec2}
-use Rattle.geometry.specs.Plane.{zero32, sub_of, dot_of}
+use Rattle.geometry.specs.Plane.{zero32, sub_of}
 use Rattle.geometry.specs.Bounds.{Within, PointWithin}
 use Rattle.geometry.proofs.Bounds.{held, by_test, sub_within, neg_within, widen}
 use Rattle.geometry.proofs.Units.{fraction, grid_most, round_value, round_power, mul_as, square, dot_units, dot_value}
@@ -164,11 +164,6 @@ module _ (x d l : Float) (g : ℕ) (X : T (finite x)) (G : HasValue d false g (2
       (mul_as binary32 (Within 2) x i X (value_finite i false k (2 ^ 149) inverse_value)
       (λ s. round_power binary32 s (num x * num i) (den x * den i) 1 (mul-pos (den_pos x) (den_pos i)) (lit< tt)
       (product (num x) (den x) (num i) (den i) k (2 ^ 149) (pow_pos 149) (value→cross i k (2 ^ 149) inverse_value) b)))
-
--- ---- `squared_distance`
-pub squared_is : (p towards : Vec2) {v : Vec2} {squared : Float} → v ≡ sub_of p towards → squared ≡ dot_of v v → squared ≡ squared_distance p towards
-unfolding squared_distance
-squared_is p towards a b = b ∙ rw a
 
 -- ---- on points
 module _ (p towards : Vec2) (P : PointWithin 1000000 p) (Q : PointWithin 1000000 towards) (apart : eq (squared_distance p towards) zero32 ≡ false) where

@@ -10,10 +10,11 @@ ghost use Rattle.direction.specs.Direction.{squared_distance, direction_of};
 use geometry::Vec2;
 
 // It is 0 also of points that differ by so little that the squares round to 0.
+#[tactic(auto, unfolding(crate::specs::Direction::squared_distance))]
 pub fn squared_distance(p: Vec2, towards: Vec2) -> f32
     ensures { result ≡ squared_distance p towards }
 {
-    let v = geometry::sub(p, towards);
+    let v = p - towards;
     geometry::dot(v, v)
 }
 
@@ -22,7 +23,7 @@ pub fn direction_towards(p: Vec2, towards: Vec2) -> Vec2
     requires { PointWithin 1000000 p × (PointWithin 1000000 towards × (eq (squared_distance p towards) zero32 ≡ false)) }
     ensures { (result ≡ direction_of p towards) × PointWithin 2 result }
 {
-    let v = geometry::sub(p, towards);
+    let v = p - towards;
     let length = root::sqrt(squared_distance(p, towards));
     let k = 1.0 / length;
     Vec2 {

@@ -12,6 +12,7 @@ pub fn read_full<R: Read>(input: &mut R, buffer: &mut [u8]) -> io::Result<usize>
         take n buffer.new ≡ take (length buffer.old) xs)) }
 {
     let mut n: usize = 0;
+    // A while: a read may give fewer bytes than there is room for.
     'reads: while n < buffer.len() {
         let more = input.read(&mut buffer[n..])?;
         if more == 0 {

@@ -10,7 +10,7 @@ use geometry::Vec2;
 
 pub mod table;
 
-// The nine multiples of the reach, in the order of the probes.
+// The nine multiples of the reach, in the order of the probes; pairs, as document 01 has them.
 const PROBES: [[f32; 2]; 9] = [
     [0.0, 0.0],
     [1.0, 0.0],
@@ -23,7 +23,8 @@ const PROBES: [[f32; 2]; 9] = [
     [1.0, -1.0],
 ];
 
-// The table, for a caller to lend.
+// The table, for a caller to lend; flat, as document 01 has it.
+#[tactic(auto, unfolding(crate::specs::Table::directions))]
 pub fn all_directions() -> [i32; 2432]
     ensures { result ≡ directions }
 {
@@ -31,6 +32,7 @@ pub fn all_directions() -> [i32; 2432]
 }
 
 // The k-th number of the table, over 2^24. The table is lent, since a constant that is indexed is copied whole at each call.
+#[tactic(auto, using(crate::proofs::Directions::read_in_float))]
 fn fraction(t: &[i32; 2432], k: usize) -> f32
     requires { (t.now ≡ directions) × (k < 2432) }
     ensures { result ≡ fraction_of (get_or directions k (pos 0)) }
@@ -64,13 +66,14 @@ pub fn sample(t: &[i32; 2432], p: Vec2, reach: f32, s: usize, i: usize) -> Vec2
 }
 
 // Probe k around p.
+#[tactic(auto, unfolding(crate::specs::Probe::probes))]
 pub fn probe(p: Vec2, reach: f32, k: usize) -> Vec2
     requires { k < 9 }
     ensures { result ≡ probe_of p reach k }
 {
-    let multiple = PROBES[k];
+    let [x, y] = PROBES[k];
     Vec2 {
-        x: p.x + multiple[0] * reach,
-        y: p.y + multiple[1] * reach,
+        x: p.x + x * reach,
+        y: p.y + y * reach,
     }
 }

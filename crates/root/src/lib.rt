@@ -7,13 +7,14 @@ ghost use Rattle.root.specs.Nearest.{root_of};
 ghost use Rattle.root.specs.Patterns.{Pattern, Shifted, Between, WholeRoot, RootPattern};
 
 // A number as digits * 2 ^ shift, with 24 binary digits.
-#[derive(Clone, Copy)]
+#[derive(Clone, Copy, Debug, PartialEq, Eq)]
 pub struct Parts {
     pub digits: u64,
     pub shift: u32,
 }
 
 // The number of a pattern, in units of 2 ^ -149 and times 2 ^ 24. A subnormal's digits are moved up until there are 24.
+#[tactic(auto, using(crate::proofs::Loops::moving))]
 fn split(bits: u32) -> Parts
     requires { Pattern bits }
     ensures { Shifted bits result.digits result.shift }
@@ -27,9 +28,10 @@ fn split(bits: u32) -> Parts
     }
     let mut digits = bits as u64;
     let mut shift: u32 = 24;
+    // A while: the digits say when it ends.
     'up: while digits < 8388608 {
-        digits = digits * 2;
-        shift = shift - 1;
+        digits *= 2;
+        shift -= 1;
     }
     Parts { digits, shift }
 }
@@ -53,6 +55,7 @@ fn whole_root(n: u64) -> u64
 {
     let mut low: u64 = 8388608;
     let mut high: u64 = 16777216;
+    // A while: an end moves.
     'halves: while high - low > 1 {
         let middle = (low + high) / 2;
         if middle * middle <= n {
@@ -83,5 +86,5 @@ pub fn sqrt(x: f32) -> f32
     requires { T (positive x) }
     ensures { result ≡ root_of x }
 {
-    f32::from_bits(root_pattern(f32::to_bits(x)))
+    f32::from_bits(root_pattern(x.to_bits()))
 }
