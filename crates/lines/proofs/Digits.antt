@@ -14,15 +14,6 @@ use Rattle.words.specs.Bytes.{splice, Put}
 use Rattle.words.proofs.Splice.{splice_nil}
 use Rattle.lines.specs.Text.{decimal_from, decimal, glyph, hex_from, hex}
 
--- ---- one digit
-pub glyph_low : {d : ℕ} → d < 10 → 48 + d ≡ glyph d
-glyph_low {d} h = rw (lt-ltb d 10 h)
-
-pub glyph_high : {d : ℕ} → 10 ≤ d → 55 + d ≡ glyph d
-glyph_high {d} h = rw (le-ltb d 10 h)
-
-pub ruleset glyphs = (glyph_low, glyph_high)
-
 by_test : {P : Type 0} (b : Bool) (n m : ℕ) → ltb n m ≡ b → (n < m → P) → (m ≤ n → P) → P
 by_test true n m e below above = below (ltb-true n m e)
 by_test false n m e below above = above (ltb-false n m e)
@@ -55,25 +46,23 @@ store_last s at x xs h =
 
 -- What all digits write is what the first i write into what stands there now.
 pub record Back (n : ℕ) (text₀ : List ℕ) (at : ℕ) (text : List ℕ) (left i : ℕ) : Type 0 where
-  pub room : at + i ≤ length text₀
   pub long : length text ≡ length text₀
   pub same : splice text₀ at (hex n) ≡ splice text at (hex_from i left [])
 
-pub back_all : {n : ℕ} {text : List ℕ} {at : ℕ} → at + 8 ≤ length text → Back n text at text n 8
+pub back_all : {n : ℕ} {text : List ℕ} {at : ℕ} → Back n text at text n 8
 unfolding hex
-back_all r = record { room = r; long = refl; same = refl }
+back_all = record { long = refl; same = refl }
 
 module _ {n : ℕ} {text₀ : List ℕ} {at : ℕ} {text : List ℕ} {left i : ℕ} (b : Back n text₀ at text left i) where
-  pub back_more : {x : ℕ} → 0 < i → x ≡ glyph (left % 16) → Back n text₀ at (set text (at + (i - 1)) x) (left / 16) (i - 1)
+  pub back_more : {x : ℕ} → at + 8 ≤ length text₀ → 0 < i → i ≤ 8 → x ≡ glyph (left % 16) → Back n text₀ at (set text (at + (i - 1)) x) (left / 16) (i - 1)
   unfolding hex_from
-  back_more {x} h e =
+  back_more {x} fits h most e =
       let k = i - 1 in
       let xs = hex_from k (left / 16) [] in
       let l : length xs ≡ k = omega (arith, length_hex_from k (left / 16) []) in
       let s : i ≡ suc k = omega arith in
       let p : hex_from i left [] ≡ xs ++ (x ∷ []) = ap (λ (m : ℕ). hex_from m left []) s ∙ rw e (hex_from_append k (left / 16) [] (glyph (left % 16) ∷ [])) in
       record {
-        room = omega arith;
         long = length-set text (at + k) x ∙ b.long;
         same = b.same ∙ ap (splice text at) p ∙ sym (store_last text at x xs (omega arith)) ∙ rw l;
       }

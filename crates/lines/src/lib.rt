@@ -12,19 +12,15 @@ ghost use Rattle.lines.specs.Input.{question21};
 use records::SeatRecord;
 
 // Question 21.
+#[tactic(auto, unfolding(crate::specs::Input::question21))]
 pub fn input_allowed(input: &[u8]) -> bool
     ensures { result ≡ question21 input.now }
 {
-    if input.len() > 65536 {
-        return false;
-    }
-    if input.len() < 4 {
-        return false;
-    }
-    words::size_at(input, 0) + 36 <= input.len()
+    input.len() <= 65536 && input.len() >= 4 && words::size_at(input, 0) + 36 <= input.len()
 }
 
 // Where the file ends in an input that passed it; the blocked set and the seats follow.
+#[tactic(auto, using(crate::proofs::Question21::parts))]
 pub fn file_end(input: &[u8]) -> usize
     requires { question21 input.now ≡ true }
     ensures { (result ≡ 4 + u32_at input.now 0) × ((4 ≤ result) × (result + 32 ≤ length input.now)) }
@@ -50,14 +46,14 @@ fn put_decimal(text: &mut [u8], at: usize, n: u32) -> usize
     put_bytes(text, at, &digits[..count])
 }
 
-fn glyph(d: u32) -> u8
-    requires { d < 16 }
-    ensures { result ≡ Text·glyph d }
+fn glyph(digit: u32) -> u8
+    requires { digit < 16 }
+    ensures { result ≡ Text·glyph digit }
 {
-    if d < 10 {
-        (48 + d) as u8
+    if digit < 10 {
+        b'0' + digit as u8
     } else {
-        (55 + d) as u8
+        b'A' + (digit - 10) as u8
     }
 }
 
@@ -67,9 +63,7 @@ fn put_hex(text: &mut [u8], at: usize, n: u32) -> usize
     ensures { Put text.old at (hex n) text.new result × (result ≡ at + 8) }
 {
     let mut left = n;
-    let mut i: usize = 8;
-    'digits: while i > 0 {
-        i -= 1;
+    'digits: for i in (0..8).rev() {
         text[at + i] = glyph(left % 16);
         left /= 16;
     }

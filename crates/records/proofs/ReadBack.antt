@@ -6,26 +6,14 @@ use mathlib.Core.Path.{◌≡◌, refl, sym, ap, ◌∙◌}
 use mathlib.Core.List.{List, [], ◌∷◌, ◌++◌, append_assoc}
 use lib.ListN.{length, get_or, drop}
 use lib.Seq.{take_at, drop-append-add, get_or-take, get_or-drop, ext_get_or}
-use Rattle.words.specs.Bytes.{u32_at, bytes4, joined, words_of, splice}
+use Rattle.words.specs.Bytes.{u32_at, bytes4, joined}
 use Rattle.words.proofs.Writing.{length_joined}
 use Rattle.words.proofs.Numbers.{length_words, word_back}
 use Rattle.words.proofs.TableRows.{length_rows, get_d_rows}
 use Rattle.records.specs.declared.SeatRecord.{SeatRecord}
 use Rattle.records.specs.Record.{record_size, record_words, record_bytes, records_bytes, word_at, record_at, records_in, record_slice, unplaced_record, untried_bytes}
 
--- ---- `record_at`
-pub nine_read : (s : List ℕ) (i : ℕ) {polygon x y kind height step sample tried candidates : ℕ}
-    → polygon ≡ word_at s i 0 → x ≡ word_at s i 1 → y ≡ word_at s i 2 → kind ≡ word_at s i 3 → height ≡ word_at s i 4
-    → step ≡ word_at s i 5 → sample ≡ word_at s i 6 → tried ≡ word_at s i 7 → candidates ≡ word_at s i 8
-    → record { polygon = polygon; x = x; y = y; kind = kind; height = height; step = step; sample = sample; tried = tried; candidates = candidates } ≡ record_at s i
-unfolding record_at
-nine_read s i a b c d e f g h k = rw (a, b, c, d, e, f, g, h, k)
-
--- ---- `put_record`
-pub nine_written : (r : SeatRecord) (out : List ℕ) (at : ℕ) {out' : List ℕ} → out' ≡ splice out at (words_of (record_words r)) → out' ≡ splice out at (record_bytes r)
-unfolding record_bytes
-nine_written r out at e = e
-
+-- ---- the bytes of a seat that is not searched for
 pub untried : record_bytes (unplaced_record 0) ≡ untried_bytes
 unfolding record_bytes joined bytes4
 untried = refl
@@ -79,8 +67,17 @@ word_read s i k h =
 record_read : (s : List ℕ) (i : ℕ) → record_at (record_slice s i) 0 ≡ record_at s i
 unfolding record_at
 record_read s i =
-    nine_read s i (word_read s i 0 (omega arith)) (word_read s i 1 (omega arith)) (word_read s i 2 (omega arith)) (word_read s i 3 (omega arith))
-    (word_read s i 4 (omega arith)) (word_read s i 5 (omega arith)) (word_read s i 6 (omega arith)) (word_read s i 7 (omega arith)) (word_read s i 8 (omega arith))
+    rw (
+      word_read s i 0 (omega arith),
+      word_read s i 1 (omega arith),
+      word_read s i 2 (omega arith),
+      word_read s i 3 (omega arith),
+      word_read s i 4 (omega arith),
+      word_read s i 5 (omega arith),
+      word_read s i 6 (omega arith),
+      word_read s i 7 (omega arith),
+      word_read s i 8 (omega arith),
+    )
 
 module _ (rs : List SeatRecord) (rest : List ℕ) where
   pub record_written : (i : ℕ) → i < length rs → record_at (records_bytes rs ++ rest) i ≡ get_or rs i no_record

@@ -8,7 +8,7 @@ ghost use Rattle.records.specs.Record.{record_size, word_at, record_at, record_b
 pub const RECORD_SIZE: usize = 36;
 
 // The nine numbers, in the record's order. Floats are there by their bits.
-#[derive(Clone, Copy)]
+#[derive(Clone, Copy, Debug, PartialEq, Eq)]
 pub struct SeatRecord {
     pub polygon: u32,
     pub x: u32,
@@ -29,10 +29,12 @@ fn word_at(records: &[u8], i: usize, k: usize) -> u32
     words::u32_at(records, RECORD_SIZE * i + 4 * k)
 }
 
+#[tactic(auto, unfolding(crate::specs::Record::record_at))]
 pub fn record_at(records: &[u8], i: usize) -> SeatRecord
     requires { record_size * i + record_size ≤ length records.now }
     ensures { result ≡ record_at records.now i }
 {
+    // Each field beside its place: read by an array, the places would stand apart from the names.
     SeatRecord {
         polygon: word_at(records, i, 0),
         x: word_at(records, i, 1),
@@ -46,6 +48,7 @@ pub fn record_at(records: &[u8], i: usize) -> SeatRecord
     }
 }
 
+#[tactic(auto, unfolding(crate::specs::Record::record_bytes))]
 pub fn put_record(out: &mut [u8], i: usize, r: SeatRecord)
     requires { record_size * i + record_size ≤ length out.old }
     ensures { out.new ≡ splice out.old (record_size * i) (record_bytes r) }
@@ -68,5 +71,5 @@ pub fn put_record(out: &mut [u8], i: usize, r: SeatRecord)
 pub fn unplaced(r: SeatRecord) -> bool
     ensures { result ≡ is_unplaced r }
 {
-    r.polygon == 0xFFFF_FFFF
+    r.polygon == words::ALL_ONES
 }

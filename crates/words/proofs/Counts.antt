@@ -1,27 +1,12 @@
 -- Counts of eight bytes, one after the other: their length, what is read back, one that is put at a place.
-use Prim.Native.Nat.{ℕ, zero, suc, ◌+◌, ◌*◌, ◌/◌, ◌%◌, ◌^◌, ◌<◌, ◌≤◌}
+use Prim.Native.Nat.{ℕ, zero, suc, ◌+◌, ◌*◌, ◌/◌, ◌%◌, ◌^◌, ◌<◌}
 use native.Mathlib.Omega.{arith}
 use mathlib.Core.Path.{◌≡◌, refl, ◌∙◌}
 use mathlib.Core.List.{List, [], ◌∷◌, ◌++◌, append_assoc}
 use lib.ListN.{length, get_or, set}
-use Rattle.words.specs.Bytes.{u32_at, u64_at, bytes4, bytes8, joined, counts_of, count_at, put_u32, put_u64}
-use Rattle.words.proofs.Splice.{splice_splice}
-use Rattle.words.proofs.Writing.{length_bytes4, length_joined}
+use Rattle.words.specs.Bytes.{u32_at, u64_at, bytes4, bytes8, joined, counts_of, count_at, put_u64}
+use Rattle.words.proofs.Writing.{length_joined}
 use Rattle.words.proofs.Numbers.{word_back, u32_at_past, joined_write}
-
--- ---- `u64_at` and `put_u64`
-pub two_words : (s : List ℕ) (at : ℕ) {low high : ℕ} → low ≡ u32_at s at → high ≡ u32_at s (at + 4) → low + 4294967296 * high ≡ u64_at s at
-unfolding u64_at
-two_words s at l h = rw (l, h)
-
-pub words_put : (s : List ℕ) (at x : ℕ) → at + 8 ≤ length s → {t u : List ℕ} → t ≡ put_u32 s at (x % 4294967296) → u ≡ put_u32 t (at + 4) (x / 4294967296) → u ≡ put_u64 s at x
-unfolding bytes8
-words_put s at x room first second =
-    let low = bytes4 (x % 4294967296) in
-    let four : at + length low ≡ at + 4 = omega (arith, length_bytes4 (x % 4294967296)) in
-    second ∙ rw (first, ← four) (splice_splice s at low (omega arith) (bytes4 (x / 4294967296)))
-
-pub ruleset counts = (two_words, words_put)
 
 -- ---- lengths
 pub length_bytes8 : (x : ℕ) → length (bytes8 x) ≡ 8

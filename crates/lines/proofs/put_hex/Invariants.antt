@@ -4,6 +4,3 @@ use Rattle.lines.proofs.put_hex.Given as goal
 
 abbrev pub invariant-digits : goal.invariant-digits
 invariant-digits l = Back l.n l.initial.text l.at l.text l.left l.i
-
-abbrev pub decreases-digits : goal.decreases-digits
-decreases-digits l = l.i
