@@ -2,24 +2,24 @@
 use Prim.Native.Nat.{ℕ, zero, suc, ◌+◌, ◌-◌, ◌*◌, ◌/◌, ◌≤◌, ◌<◌}
 use native.Mathlib.Omega.{arith}
 use native.Mathlib.Nat.{le-div_iff_mul-le, div-lt_iff_lt-mul, mul_comm}
-use mathlib.Core.Path.{◌≡◌, refl, sym, ap₂, ◌∙◌}
+use mathlib.Core.Path.{◌≡◌, refl, sym, ap, ap₂, ◌∙◌}
 use mathlib.Core.Bool.{Bool, true, false, not, or-false}
 use mathlib.Core.List.{List}
 use lib.Dec.{eqb, leb, ltb}
 use lib.ListN.{length}
 use borrow.Author.Tests.{not-true, not-false, eq-eqb, ne_eqb, le-leb, lt-leb, eqb-true, leb-true, leb-false}
 use Rattle.words.specs.Bytes.{all_ones}
-use Rattle.answers.specs.declared.Check.{Check}
-use Rattle.answers.specs.declared.Check.TheVariants.{Passed, No}
-use Rattle.answers.specs.Checks.{ask, after, check_each}
+use Rattle.std.specs.Prelude.{Result, Ok, Err, IsErrAnd}
+use Rattle.answers.specs.declared.Refusal.{Refusal}
+use Rattle.answers.specs.Checks.{Check, ask, after, check_each}
 use Rattle.answers.specs.Questions.{question14, question17, looks_at, question20}
 
 -- ---- a question in its chain
-pub ask_no : (n : ℕ) (b : Bool) (later : Check) → b ≡ false → No n ≡ ask b n later
-ask_no n b later e = rw e
+pub ask_no : (refusal : Refusal) (b : Bool) (later : Check) → b ≡ false → Err refusal ≡ ask b refusal later
+ask_no refusal b later e = rw e
 
-pub ask_yes : (n : ℕ) (b : Bool) (later : Check) {v : Check} → b ≡ true → v ≡ later → v ≡ ask b n later
-ask_yes n b later e f = f ∙ rw e
+pub ask_yes : (refusal : Refusal) (b : Bool) (later : Check) {v : Check} → b ≡ true → v ≡ later → v ≡ ask b refusal later
+ask_yes refusal b later e f = f ∙ rw e
 
 -- b was asked by a call, and r is what the call returned
 pub said_no : {r b : Bool} → r ≡ b → not r ≡ true → b ≡ false
@@ -30,33 +30,38 @@ said_yes {r} e f = sym e ∙ not-false r f
 
 -- the first part was asked by a call, and r is what it returned
 module _ {r first : Check} (asked : r ≡ first) where
-  pub after_no : (later : Check) {number : ℕ} → r ≡ No number → No number ≡ after first later
-  after_no later e = rw (sym asked ∙ e)
+  pub after_no : (later : Check) {refusal : Refusal} {v : Check} → r ≡ Err refusal → v ≡ Err refusal → v ≡ after first later
+  after_no later e f = f ∙ rw (sym asked ∙ e)
 
-  pub after_yes : {later v : Check} → r ≡ Passed → v ≡ later → v ≡ after first later
+  pub after_yes : {later v : Check} → r ≡ Ok tt → v ≡ later → v ≡ after first later
   after_yes e f = f ∙ rw (sym asked ∙ e)
 
-  pub said_passed : r ≡ Passed → first ≡ Passed
+  pub said_passed : r ≡ Ok tt → first ≡ Ok tt
   said_passed e = sym asked ∙ e
+
+-- ---- what a `?` hands on: v is what was asked
+pub handed_on : {T : Type 0} {v : Result T Refusal} {refusal : Refusal} → IsErrAnd v (λ e. e ≡ refusal) → v ≡ Err refusal
+handed_on {v = Ok x} h = absurd h
+handed_on {v = Err e} h = ap Err h
 
 pub ruleset asking = (ask_no, ask_yes, said_no, said_yes, after_no, after_yes, said_passed)
 
 -- ---- a passed chain
-pub asked_yes : (b : Bool) (number : ℕ) (later : Check) → ask b number later ≡ Passed → (b ≡ true) × (later ≡ Passed)
-asked_yes true number later h = (refl, h)
-asked_yes false number later h = (cc, cc)
+pub asked_yes : (b : Bool) (refusal : Refusal) (later : Check) → ask b refusal later ≡ Ok tt → (b ≡ true) × (later ≡ Ok tt)
+asked_yes true refusal later h = (refl, h)
+asked_yes false refusal later h = (cc, cc)
 
-pub both_passed : (first later : Check) → after first later ≡ Passed → (first ≡ Passed) × (later ≡ Passed)
-both_passed Passed later h = (refl, h)
-both_passed (No number) later h = (cc, cc)
+pub both_passed : (first later : Check) → after first later ≡ Ok tt → (first ≡ Ok tt) × (later ≡ Ok tt)
+both_passed (Ok passed) later h = (refl, h)
+both_passed (Err refusal) later h = (cc, cc)
 
-pub after_passed : (first : Check) → after first Passed ≡ first
-after_passed Passed = refl
-after_passed (No number) = refl
+pub after_passed : (first : Check) → after first (Ok tt) ≡ first
+after_passed (Ok passed) = refl
+after_passed (Err refusal) = refl
 
 -- ---- one check for each number
 module _ (check : ℕ → Check) where
-  each_from : (n i : ℕ) → check_each check i n ≡ Passed → (k : ℕ) → k < n → check (i + k) ≡ Passed
+  each_from : (n i : ℕ) → check_each check i n ≡ Ok tt → (k : ℕ) → k < n → check (i + k) ≡ Ok tt
   unfolding check_each
   each_from zero i h k l = absurd (omega arith)
   each_from (suc n) i h zero l =
@@ -66,15 +71,15 @@ module _ (check : ℕ → Check) where
       let e : i + suc k ≡ i + 1 + k = omega arith in
       rw e (each_from n (i + 1) (both_passed (check i) (check_each check (i + 1) n) h).1 k (omega arith))
 
-  pub each_passed : (n : ℕ) → check_each check 0 n ≡ Passed → (k : ℕ) → k < n → check k ≡ Passed
+  pub each_passed : (n : ℕ) → check_each check 0 n ≡ Ok tt → (k : ℕ) → k < n → check k ≡ Ok tt
   each_passed n h k l = let e : 0 + k ≡ k = omega arith in rw e at (each_from n 0 h k l)
 
-  passed_from : (n i : ℕ) → ((k : ℕ) → i ≤ k → k < i + n → check k ≡ Passed) → check_each check i n ≡ Passed
+  passed_from : (n i : ℕ) → ((k : ℕ) → i ≤ k → k < i + n → check k ≡ Ok tt) → check_each check i n ≡ Ok tt
   unfolding check_each
   passed_from zero i h = refl
   passed_from (suc n) i h = rw (h i (omega arith) (omega arith)) (passed_from n (i + 1) (λ k a b. h k (omega arith) (omega arith)))
 
-  pub passed_each : (n : ℕ) → ((k : ℕ) → k < n → check k ≡ Passed) → check_each check 0 n ≡ Passed
+  pub passed_each : (n : ℕ) → ((k : ℕ) → k < n → check k ≡ Ok tt) → check_each check 0 n ≡ Ok tt
   passed_each n h = passed_from n 0 (λ k a b. h k (omega arith))
 
 -- two checks that say the same of each number
@@ -91,7 +96,7 @@ pub checked_all : {check : ℕ → Check} {n : ℕ} → Checked check n 0
 checked_all {check} {n} = record { same = let e : n - 0 ≡ n = omega arith in rw e }
 
 module _ {check : ℕ → Check} {n i : ℕ} (t : Checked check n i) where
-  pub checked_none : n ≤ i → Passed ≡ check_each check 0 n
+  pub checked_none : n ≤ i → Ok tt ≡ check_each check 0 n
   unfolding check_each
   checked_none h = let e : n - i ≡ zero = omega arith in sym (t.same ∙ rw e)
 
@@ -100,11 +105,11 @@ module _ {check : ℕ → Check} {n i : ℕ} (t : Checked check n i) where
     unfolding check_each
     checked_step = let e : n - i ≡ suc (n - (i + 1)) = omega arith in t.same ∙ rw (e, asked)
 
-    pub checked_more : r ≡ Passed → Checked check n (i + 1)
+    pub checked_more : r ≡ Ok tt → Checked check n (i + 1)
     checked_more e = record { same = checked_step ∙ rw e }
 
-    pub checked_stop : {number : ℕ} → r ≡ No number → No number ≡ check_each check 0 n
-    checked_stop e = sym (checked_step ∙ rw e)
+    pub checked_stop : {refusal : Refusal} {v : Check} → r ≡ Err refusal → v ≡ Err refusal → v ≡ check_each check 0 n
+    checked_stop e f = f ∙ sym (checked_step ∙ rw e)
 
 pub ruleset checking = (checked_all, checked_none, checked_more, checked_stop)
 

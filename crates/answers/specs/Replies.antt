@@ -1,12 +1,14 @@
 -- What every call that writes promises. A call defines its `Reply`, that is its questions and its entries, and the rest is said here once.
-use Rattle.std.specs.Prelude.{ℕ, ◌<◌, ◌^◌, ◌≡◌, List, ◌++◌, ℤ, pos, neg_ℤ, length, drop, replicate}
+use Rattle.std.specs.Prelude.{ℕ, ◌<◌, ◌^◌, ◌≡◌, List, ◌++◌, ℤ, pos, neg_ℤ, length, drop, replicate, Result, Ok, Err}
 use Rattle.words.specs.Bytes.{joined}
-use Rattle.answers.specs.declared.Check.{Check}
-use Rattle.answers.specs.declared.Check.TheVariants.{Passed, No}
-use Rattle.answers.specs.declared.Answer.{Answer}
-use Rattle.answers.specs.declared.Answer.TheVariants.{Refused, Wrote}
-use Rattle.answers.specs.Checks.{ask, after}
-use Rattle.answers.specs.Questions.{question20}
+use Rattle.answers.specs.declared.Refusal.{Refusal}
+use Rattle.answers.specs.declared.Refusal.TheVariants.{NoRoom}
+use Rattle.answers.specs.Checks.{Check, ask, after}
+use Rattle.answers.specs.Questions.{number_of, question20}
+
+-- the question that was not passed, or how many entries were written
+abbrev pub Answer : Type 0
+Answer = Result ℕ Refusal
 
 -- what a call asks before 20, how many entries it answers, and their bytes
 pub record Reply : Type 0 where
@@ -20,17 +22,17 @@ reply_of check bytes_of entries = record { check = check; count = length entries
 
 -- 20, asked of this very answer, comes last
 unfoldable pub reply_check : Reply → ℕ → Check
-reply_check reply room = after reply.check (ask (question20 (length reply.bytes) room) 20 Passed)
+reply_check reply room = after reply.check (ask (question20 (length reply.bytes) room) NoRoom (Ok tt))
 
--- the number of the question that was not passed, or how many entries were written
+-- the answer of a call that passed, or was refused
 abbrev pub answer_for : Check → ℕ → Answer
-answer_for Passed count = Wrote count
-answer_for (No number) count = Refused number
+answer_for (Ok passed) count = Ok count
+answer_for (Err refusal) count = Err refusal
 
 -- a refusal alters nothing, and output past the answer is untouched
 abbrev pub output_for : Check → List ℕ → List ℕ → List ℕ
-output_for Passed bytes out = bytes ++ drop (length bytes) out
-output_for (No number) bytes out = out
+output_for (Ok passed) bytes out = bytes ++ drop (length bytes) out
+output_for (Err refusal) bytes out = out
 
 unfoldable pub answer_to : Reply → List ℕ → Answer
 answer_to reply out = answer_for (reply_check reply (length out)) reply.count
@@ -47,12 +49,12 @@ pub record Replied (reply : Reply) (out out' : List ℕ) (answer : Answer) : Typ
 -- 20 asks for so many bytes of what else is lent
 abbrev pub with_room : Reply → ℕ → List ℕ → Reply
 with_room reply wanted lent =
-    record { check = after reply.check (ask (question20 wanted (length lent)) 20 Passed); count = reply.count; bytes = reply.bytes }
+    record { check = after reply.check (ask (question20 wanted (length lent)) NoRoom (Ok tt)); count = reply.count; bytes = reply.bytes }
 
 -- work is all zeros after an answer, the whole of it
 abbrev pub work_for : Check → List ℕ → List ℕ
-work_for Passed work = replicate (length work) 0
-work_for (No number) work = work
+work_for (Ok passed) work = replicate (length work) 0
+work_for (Err refusal) work = work
 
 unfoldable pub work_to : Reply → List ℕ → List ℕ → List ℕ
 work_to reply out work = work_for (reply_check reply (length out)) work
@@ -77,13 +79,13 @@ pub record Tabled (reply : Reply) (bytes : List ℕ) (wanted : ℕ) (out out' ta
 -- ---- over C
 -- the count, or minus the question's number
 abbrev pub code_of : Answer → ℤ
-code_of (Wrote count) = pos count
-code_of (Refused number) = neg_ℤ (pos number)
+code_of (Ok count) = pos count
+code_of (Err refusal) = neg_ℤ (pos (number_of refusal))
 
 -- a count that fits an i64
 abbrev pub AnswerFits : Answer → Type 0
-AnswerFits (Wrote count) = count < 2 ^ 63
-AnswerFits (Refused number) = Unit {0}
+AnswerFits (Ok count) = count < 2 ^ 63
+AnswerFits (Err refusal) = Unit {0}
 
 pub record RepliedCode (reply : Reply) (out out' : List ℕ) (code : ℤ) : Type 0 where
   pub code_is : code ≡ code_of (answer_to reply out)
