@@ -5,14 +5,14 @@ ghost use Rattle.std.specs.Prelude.{◌≡◌, ◌<◌, ◌^◌};
 ghost use Rattle.hits.specs.Hits.{tried_of};
 
 // The first sample of a deck's turn that hits, and the first polygon that passes there.
-#[derive(Clone, Copy)]
-pub enum Hit {
-    At(usize, usize),
-    Missed,
+#[derive(Clone, Copy, Debug, PartialEq, Eq)]
+pub struct Hit {
+    pub sample: usize,
+    pub polygon: usize,
 }
 
 // A polygon at a sample: of a step, on a deck.
-#[derive(Clone, Copy)]
+#[derive(Clone, Copy, Debug, PartialEq, Eq)]
 pub struct Candidate {
     pub step: usize,
     pub deck: usize,
@@ -20,13 +20,13 @@ pub struct Candidate {
     pub polygon: usize,
 }
 
-// How many samples a turn of step s took.
-pub fn tried(s: usize, hit: Hit) -> usize
+// How many samples a turn of step s took: up to its hit, all of them where it has none.
+pub fn tried(s: usize, hit: Option<Hit>) -> usize
     requires { tried_of s hit < 2 ^ 32 }
     ensures { result ≡ tried_of s hit }
 {
     match hit {
-        Hit::At(i, _) => i + 1,
-        Hit::Missed => 10 * s + 1,
+        Some(h) => h.sample + 1,
+        None => 10 * s + 1,
     }
 }

@@ -5,4 +5,3 @@ pub mod SurveyUnique
 pub mod Loops
 pub mod Recorded
 pub mod NoneOpen
-pub mod SeatAsks

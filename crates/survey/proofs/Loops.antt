@@ -11,10 +11,10 @@ use lib.Ieee.Bits.{is_true}
 use lib.ListN.{length}
 use Rattle.words.specs.Rows.{collect}
 use Rattle.words.proofs.Collecting.{left, none_left, collect_yes, collect_no, length_collect, sum_bound}
+use Rattle.std.specs.Prelude.{Option, Some, None}
 use Rattle.hits.specs.declared.Candidate.{Candidate}
 use Rattle.hits.specs.declared.Hit.{Hit}
-use Rattle.hits.specs.declared.Hit.TheVariants.{At, Missed}
-use Rattle.hits.specs.Candidates.{candidate}
+use Rattle.hits.specs.Candidates.{hit, candidate}
 use Rattle.hits.specs.Hits.{polygon_hit, tried_of}
 use Rattle.survey.specs.View.{Shown, View}
 use Rattle.survey.specs.Search.{passes_on, turn, passing, given, turn_gives, turn_tried, candidates, tried_in, Nowhere, InStep, first_step}
@@ -36,39 +36,38 @@ module _ (v : View) (s n : ℕ) where
 
 -- ---- the polygons that pass at a sample begin with the first that passes
 module _ (w : Shown) (s d i : ℕ) where
-  pub passing_missed : (k n : ℕ) → polygon_hit (passes_on w s d) i k n ≡ Missed → passing w s d i k n ≡ []
+  pub passing_missed : (k n : ℕ) → polygon_hit (passes_on w s d) i k n ≡ None → passing w s d i k n ≡ []
   unfolding polygon_hit collect
   passing_missed k zero e = refl
   passing_missed k (suc n) e = go (passes_on w s d i k) e (passing_missed (k + 1) n)
     where
-      go : (b : Bool) → cond b (At i k) (polygon_hit (passes_on w s d) i (k + 1) n) ≡ Missed
-          → (polygon_hit (passes_on w s d) i (k + 1) n ≡ Missed → passing w s d i (k + 1) n ≡ [])
+      go : (b : Bool) → cond b (Some (hit i k)) (polygon_hit (passes_on w s d) i (k + 1) n) ≡ None
+          → (polygon_hit (passes_on w s d) i (k + 1) n ≡ None → passing w s d i (k + 1) n ≡ [])
           → cond b (candidate s d i k ∷ passing w s d i (k + 1) n) (passing w s d i (k + 1) n) ≡ []
       go true q later = let z : ◌≡◌ {A = ℕ} 0 1 = cc in absurd (omega arith)
       go false q later = later q
 
-  -- a hit at sample j, which is i, and polygon l: it is one of the n, and those after it are left
-  pub record PassingAt (k n j l : ℕ) : Type 0 where
-    pub same_sample : j ≡ i
-    pub from : k ≤ l
-    pub below : l < k + n
-    pub first : passing w s d i k n ≡ candidate s d i l ∷ passing w s d i (l + 1) (k + n - (l + 1))
+  -- a hit at sample i: its polygon is one of the n, and those after it are left
+  pub record PassingAt (k n : ℕ) (h : Hit) : Type 0 where
+    pub same_sample : h.sample ≡ i
+    pub from : k ≤ h.polygon
+    pub below : h.polygon < k + n
+    pub first : passing w s d i k n ≡ candidate s d i h.polygon ∷ passing w s d i (h.polygon + 1) (k + n - (h.polygon + 1))
 
-  pub passing_at : (k n j l : ℕ) → polygon_hit (passes_on w s d) i k n ≡ At j l → PassingAt k n j l
+  pub passing_at : (k n : ℕ) (h : Hit) → polygon_hit (passes_on w s d) i k n ≡ Some h → PassingAt k n h
   unfolding polygon_hit collect
-  passing_at k zero j l e = let z : ◌≡◌ {A = ℕ} 0 1 = cc in absurd (omega arith)
-  passing_at k (suc n) j l e = go (passes_on w s d i k) refl e (passing_at (k + 1) n j l)
+  passing_at k zero h e = let z : ◌≡◌ {A = ℕ} 0 1 = cc in absurd (omega arith)
+  passing_at k (suc n) h e = go (passes_on w s d i k) refl e (passing_at (k + 1) n h)
     where
-      go : (b : Bool) → passes_on w s d i k ≡ b → cond b (At i k) (polygon_hit (passes_on w s d) i (k + 1) n) ≡ At j l
-          → (polygon_hit (passes_on w s d) i (k + 1) n ≡ At j l → PassingAt (k + 1) n j l) → PassingAt k (suc n) j l
+      go : (b : Bool) → passes_on w s d i k ≡ b → cond b (Some (hit i k)) (polygon_hit (passes_on w s d) i (k + 1) n) ≡ Some h
+          → (polygon_hit (passes_on w s d) i (k + 1) n ≡ Some h → PassingAt (k + 1) n h) → PassingAt k (suc n) h
       go true p q later =
-          let same : i ≡ j = cc in
-          let here : k ≡ l = cc in
+          let here : hit i k ≡ h = cc in
           let rest : k + suc n - (k + 1) ≡ n = omega arith in
-          subst (PassingAt k (suc n) j) here (record { same_sample = cc; from = omega arith; below = omega arith; first = rw (p, rest) })
+          subst (PassingAt k (suc n)) here (record { same_sample = refl; from = omega arith; below = omega arith; first = rw (p, rest) })
       go false p q later =
           let r = later q in
-          let rest : k + suc n - (l + 1) ≡ k + 1 + n - (l + 1) = omega arith in
+          let rest : k + suc n - (h.polygon + 1) ≡ k + 1 + n - (h.polygon + 1) = omega arith in
           record { same_sample = r.same_sample; from = omega (arith, r.from); below = omega (arith, r.below); first = rw (p, rest) r.first }
 
 is_false : (b : Bool) → (T b → ⊥) → b ≡ false
@@ -77,38 +76,38 @@ is_false false f = refl
 
 module _ (v : View) where
   -- ---- a hit: no polygon before its own passes at its sample, so that the scan for candidates may begin there
-  module _ (s d i k : ℕ) (e : turn v.shown s d ≡ At i k) where
-    hit_is : HitIs v s d i k
+  module _ (s d : ℕ) (h : Hit) (e : turn v.shown s d ≡ Some h) where
+    hit_is : HitIs v s d h.sample h.polygon
     hit_is = subst (TurnIs v s d) e (turn_is v s d)
 
-    pub hit_polygon : k < v.shown.polygons d
+    pub hit_polygon : h.polygon < v.shown.polygons d
     hit_polygon = hit_is.passes.0
 
-    pub hit_sample : i ≤ 10 * s
+    pub hit_sample : h.sample ≤ 10 * s
     hit_sample = hit_is.first_hit.in_ring
 
-    none_before : (j : ℕ) → j ≤ k → passing v.shown s d i 0 (v.shown.polygons d) ≡ passing v.shown s d i j (v.shown.polygons d - j)
+    none_before : (j : ℕ) → j ≤ h.polygon → passing v.shown s d h.sample 0 (v.shown.polygons d) ≡ passing v.shown s d h.sample j (v.shown.polygons d - j)
     none_before zero l = simp sub-zero
     none_before (suc j) l =
         none_before j (omega arith)
-        ∙ collect_no (passes_on v.shown s d i) _ j (v.shown.polygons d) (omega (arith, hit_polygon))
-        (is_false (passes_on v.shown s d i j) (hit_is.none_before j (omega arith)))
-        ∙ ap (λ (m : ℕ). passing v.shown s d i m (v.shown.polygons d - m)) (add-one j)
+        ∙ collect_no (passes_on v.shown s d h.sample) _ j (v.shown.polygons d) (omega (arith, hit_polygon))
+        (is_false (passes_on v.shown s d h.sample j) (hit_is.none_before j (omega arith)))
+        ∙ ap (λ (m : ℕ). passing v.shown s d h.sample m (v.shown.polygons d - m)) (add-one j)
 
-    pub gives_hit : turn_gives v.shown s d ≡ candidate s d i k ∷ passing v.shown s d i (k + 1) (v.shown.polygons d - (k + 1))
+    pub gives_hit : turn_gives v.shown s d ≡ candidate s d h.sample h.polygon ∷ passing v.shown s d h.sample (h.polygon + 1) (v.shown.polygons d - (h.polygon + 1))
     gives_hit =
         ap (given v.shown s d) e
-        ∙ none_before k (omega arith)
-        ∙ collect_yes (passes_on v.shown s d i) _ k (v.shown.polygons d) hit_polygon (is_true (passes_on v.shown s d i k) hit_is.passes.1)
+        ∙ none_before h.polygon (omega arith)
+        ∙ collect_yes (passes_on v.shown s d h.sample) _ h.polygon (v.shown.polygons d) hit_polygon (is_true (passes_on v.shown s d h.sample h.polygon) hit_is.passes.1)
 
   -- ---- the numbers stay small
-  given_bound : (s d : ℕ) (t : Hit) → length (given v.shown s d t) ≤ v.shown.polygons d
-  given_bound s d Missed = omega arith
-  given_bound s d (At i k) =
+  given_bound : (s d : ℕ) (t : Option Hit) → length (given v.shown s d t) ≤ v.shown.polygons d
+  given_bound s d None = omega arith
+  given_bound s d (Some h) =
       omega (
         arith,
-        length_collect (passes_on v.shown s d i) (λ j. candidate s d i j ∷ []) 0 (v.shown.polygons d),
-        sum_bound (passes_on v.shown s d i) (λ j. 1) 1 (λ j. omega arith) 0 (v.shown.polygons d),
+        length_collect (passes_on v.shown s d h.sample) (λ j. candidate s d h.sample j ∷ []) 0 (v.shown.polygons d),
+        sum_bound (passes_on v.shown s d h.sample) (λ j. 1) 1 (λ j. omega arith) 0 (v.shown.polygons d),
       )
 
   pub candidates_bound : (b : ℕ) → ((d : ℕ) → v.shown.polygons d ≤ b) → (s : ℕ) → length (candidates v s) ≤ v.decks * b
@@ -122,9 +121,9 @@ module _ (v : View) where
   pub turn_tried_bound : (s d : ℕ) → turn_tried v.shown s d ≤ 10 * s + 1
   turn_tried_bound s d = go (turn v.shown s d) (turn_is v s d)
     where
-      go : (t : Hit) → TurnIs v s d t → tried_of s t ≤ 10 * s + 1
-      go Missed h = omega arith
-      go (At i k) h = omega (arith, h.first_hit.in_ring)
+      go : (t : Option Hit) → TurnIs v s d t → tried_of s t ≤ 10 * s + 1
+      go None h = omega arith
+      go (Some f) h = omega (arith, h.first_hit.in_ring)
 
   pub tried_in_bound : (s : ℕ) → tried_in v s ≤ v.decks * (10 * s + 1)
   tried_in_bound s = sum_bound v.opens (turn_tried v.shown s) (10 * s + 1) (turn_tried_bound s) 0 v.decks

@@ -9,10 +9,10 @@ use native.Mathlib.Omega.{arith}
 use native.Mathlib.Nat.{mul-add, mul-le-mul_left, mul-zero}
 use lib.Dec.{T}
 use lib.ListN.{length}
+use Rattle.std.specs.Prelude.{Option, Some, None}
 use Rattle.hits.specs.declared.Candidate.{Candidate}
 use Rattle.hits.specs.declared.Hit.{Hit}
-use Rattle.hits.specs.declared.Hit.TheVariants.{At, Missed}
-use Rattle.hits.specs.Candidates.{candidate}
+use Rattle.hits.specs.Candidates.{hit, candidate}
 use Rattle.survey.specs.View.{View}
 use Rattle.hits.specs.Hits.{or_else, polygon_hit, sample_hit, tried_of}
 use Rattle.survey.specs.Search.{passes_on, turn, passing, given, turn_gives, turn_tried, candidates, tried_in, tried_before, Found, Nowhere, InStep, step_or, first_step, record_of, seat_record}
@@ -22,9 +22,10 @@ use Rattle.words.proofs.Collecting.{three, from_next, holds, not_holds, In, Risi
 
 -- ---- the first polygon that passes, and the first sample that hits
 module _ (passes : ℕ → ℕ → Bool) where
-  abbrev PolygonIs : ℕ → ℕ → ℕ → Hit → Type 0
-  PolygonIs i k n Missed = (j : ℕ) → k ≤ j → j < k + n → T (passes i j) → ⊥
-  PolygonIs i k n (At h l) = (h ≡ i) × (k ≤ l) × (l < k + n) × T (passes i l) × ((j : ℕ) → k ≤ j → j < l → T (passes i j) → ⊥)
+  abbrev PolygonIs : ℕ → ℕ → ℕ → Option Hit → Type 0
+  PolygonIs i k n None = (j : ℕ) → k ≤ j → j < k + n → T (passes i j) → ⊥
+  PolygonIs i k n (Some h) =
+      (h.sample ≡ i) × (k ≤ h.polygon) × (h.polygon < k + n) × T (passes i h.polygon) × ((j : ℕ) → k ≤ j → j < h.polygon → T (passes i j) → ⊥)
 
   polygon_is : (i k n : ℕ) → PolygonIs i k n (polygon_hit passes i k n)
   unfolding polygon_hit
@@ -34,34 +35,35 @@ module _ (passes : ℕ → ℕ → Bool) where
       next : passes i k ≡ false → (j : ℕ) → k ≤ j → (k + 1 ≤ j → T (passes i j) → ⊥) → T (passes i j) → ⊥
       next e j = from_next (λ j'. T (passes i j') → ⊥) k j (not_holds (passes i k) e)
 
-      go : (b : Bool) → passes i k ≡ b → (r : Hit) → PolygonIs i (k + 1) n r → PolygonIs i k (suc n) (cond b (At i k) r)
+      go : (b : Bool) → passes i k ≡ b → (r : Option Hit) → PolygonIs i (k + 1) n r → PolygonIs i k (suc n) (cond b (Some (hit i k)) r)
       go true e r h = (refl, omega arith, omega arith, holds (passes i k) e, λ j l m. absurd (omega arith))
-      go false e Missed h = λ j l m. next e j l (λ q. h j q (omega arith))
-      go false e (At u l) h = (h.0, omega (arith, h.1), omega (arith, h.2), h.3, λ j m o. next e j m (λ q. h.4 j q o))
+      go false e None h = λ j l m. next e j l (λ q. h j q (omega arith))
+      go false e (Some u) h = (h.0, omega (arith, h.1), omega (arith, h.2), h.3, λ j m o. next e j m (λ q. h.4 j q o))
 
   -- no polygon below m passes at sample i
   abbrev NoneAt : ℕ → ℕ → Type 0
   NoneAt m i = (k : ℕ) → k < m → T (passes i k) → ⊥
 
-  abbrev SampleIs : ℕ → ℕ → ℕ → Hit → Type 0
-  SampleIs m i n Missed = (j : ℕ) → i ≤ j → j < i + n → NoneAt m j
-  SampleIs m i n (At h k) =
-      (i ≤ h) × (h < i + n) × (k < m) × T (passes h k) × ((j : ℕ) → j < k → T (passes h j) → ⊥) × ((j : ℕ) → i ≤ j → j < h → NoneAt m j)
+  abbrev SampleIs : ℕ → ℕ → ℕ → Option Hit → Type 0
+  SampleIs m i n None = (j : ℕ) → i ≤ j → j < i + n → NoneAt m j
+  SampleIs m i n (Some h) =
+      (i ≤ h.sample) × (h.sample < i + n) × (h.polygon < m) × T (passes h.sample h.polygon)
+      × ((j : ℕ) → j < h.polygon → T (passes h.sample j) → ⊥) × ((j : ℕ) → i ≤ j → j < h.sample → NoneAt m j)
 
   sample_is : (m i n : ℕ) → SampleIs m i n (sample_hit passes m i n)
   unfolding sample_hit
   sample_is m i zero = λ j l o. absurd (omega arith)
   sample_is m i (suc n) = go (polygon_hit passes i 0 m) (polygon_is i 0 m) (sample_hit passes m (i + 1) n) (sample_is m (i + 1) n)
     where
-      next : PolygonIs i 0 m Missed → (j : ℕ) → i ≤ j → (i + 1 ≤ j → NoneAt m j) → NoneAt m j
+      next : PolygonIs i 0 m None → (j : ℕ) → i ≤ j → (i + 1 ≤ j → NoneAt m j) → NoneAt m j
       next h j = from_next (NoneAt m) i j (λ k l. h k (omega arith) (omega arith))
 
-      go : (r : Hit) → PolygonIs i 0 m r → (later : Hit) → SampleIs m (i + 1) n later → SampleIs m i (suc n) (or_else r later)
-      go (At u k) h later g =
-          subst (λ (i' : ℕ). SampleIs m i (suc n) (At i' k)) (sym h.0)
+      go : (r : Option Hit) → PolygonIs i 0 m r → (later : Option Hit) → SampleIs m (i + 1) n later → SampleIs m i (suc n) (or_else r later)
+      go (Some u) h later g =
+          subst (λ (i' : ℕ). SampleIs m i (suc n) (Some (hit i' u.polygon))) (sym h.0)
           (omega arith, omega arith, omega (arith, h.2), h.3, λ j l. h.4 j (omega arith) l, λ j l o. absurd (omega arith))
-      go Missed h Missed g = λ j l o. next h j l (λ q. g j q (omega arith))
-      go Missed h (At u k) g = (omega (arith, g.0), omega (arith, g.1), g.2, g.3, g.4, λ j l o. next h j l (λ q. g.5 j q o))
+      go None h None g = λ j l o. next h j l (λ q. g j q (omega arith))
+      go None h (Some u) g = (omega (arith, g.0), omega (arith, g.1), g.2, g.3, g.4, λ j l o. next h j l (λ q. g.5 j q o))
 
 -- ---- 5 s s - 4 s
 at_most_square : (s : ℕ) → s ≤ s * s
@@ -79,22 +81,22 @@ module _ (v : View) where
     pub passes : Passes v (candidate s d i k)
     pub none_before : (j : ℕ) → j < k → T (passes_on v.shown s d i j) → ⊥
 
-  abbrev pub TurnIs : ℕ → ℕ → Hit → Type 0
-  TurnIs s d Missed = NoHitOn v s d
-  TurnIs s d (At i k) = HitIs s d i k
+  abbrev pub TurnIs : ℕ → ℕ → Option Hit → Type 0
+  TurnIs s d None = NoHitOn v s d
+  TurnIs s d (Some h) = HitIs s d h.sample h.polygon
 
   pub turn_is : (s d : ℕ) → TurnIs s d (turn v.shown s d)
   unfolding turn
   turn_is s d = go (turn v.shown s d) (sample_is (passes_on v.shown s d) (v.shown.polygons d) 0 (10 * s + 1))
     where
-      go : (t : Hit) → SampleIs (passes_on v.shown s d) (v.shown.polygons d) 0 (10 * s + 1) t → TurnIs s d t
-      go Missed h = λ i l k q. h i (omega arith) (omega arith) k q.0 q.1
-      go (At i k) h =
+      go : (t : Option Hit) → SampleIs (passes_on v.shown s d) (v.shown.polygons d) 0 (10 * s + 1) t → TurnIs s d t
+      go None h = λ i l k q. h i (omega arith) (omega arith) k q.0 q.1
+      go (Some f) h =
           record {
             first_hit =
                 record {
                   in_ring = omega (arith, h.1);
-                  hits = (k, (h.2, h.3));
+                  hits = (f.polygon, (h.2, h.3));
                   none_before = λ j l k' q. h.5 j (omega arith) l k' q.0 q.1;
                 };
             passes = (h.2, h.3);
@@ -111,11 +113,14 @@ module _ (v : View) where
   abbrev alone : ℕ → ℕ → ℕ → ℕ → List Candidate
   alone s d i k = candidate s d i k ∷ []
 
-  of_given : (s d : ℕ) (t : Hit) (c : Candidate) → TurnIs s d t → In c (given v.shown s d t) → (c.deck ≡ d) × (Open v d → IsCandidate v s c)
-  of_given s d Missed c h m = absurd m
-  of_given s d (At i k) c h m =
+  of_given : (s d : ℕ) (t : Option Hit) (c : Candidate) → TurnIs s d t → In c (given v.shown s d t) → (c.deck ≡ d) × (Open v d → IsCandidate v s c)
+  of_given s d None c h m = absurd m
+  of_given s d (Some f) c h m =
       go (of_collect (passes_on v.shown s d i) (alone s d i) 0 (v.shown.polygons d) c m)
     where
+      i : ℕ
+      i = f.sample
+
       go : (j : ℕ) × (0 ≤ j) × (j < 0 + v.shown.polygons d) × T (passes_on v.shown s d i j) × In c (alone s d i j)
           → (c.deck ≡ d) × (Open v d → IsCandidate v s c)
       go (j, l, m', t, inl e) =
@@ -123,17 +128,20 @@ module _ (v : View) where
           (refl, λ o. record { of_step = refl; on_open = o; first_hit = h.first_hit; passes = (omega arith, t) })
       go (j, l, m', t, inr n) = absurd n
 
-  in_given : (s d i k : ℕ) (t : Hit) → TurnIs s d t → FirstHit v s d i → Passes v (candidate s d i k) → In (candidate s d i k) (given v.shown s d t)
-  in_given s d i k Missed h f p = absurd (h i f.in_ring k p)
-  in_given s d i k (At j l) h f p =
-      subst (λ (j' : ℕ). In (candidate s d i k) (passing v.shown s d j' 0 (v.shown.polygons d))) (same_hit s d i j f h.first_hit)
+  in_given : (s d i k : ℕ) (t : Option Hit) → TurnIs s d t → FirstHit v s d i → Passes v (candidate s d i k) → In (candidate s d i k) (given v.shown s d t)
+  in_given s d i k None h f p = absurd (h i f.in_ring k p)
+  in_given s d i k (Some g) h f p =
+      subst (λ (j : ℕ). In (candidate s d i k) (passing v.shown s d j 0 (v.shown.polygons d))) (same_hit s d i g.sample f h.first_hit)
       (in_collect (passes_on v.shown s d i) (alone s d i) 0 (v.shown.polygons d) k (candidate s d i k) (omega arith) (omega (arith, p.0)) p.1 (inl refl))
 
-  given_rises : (s d : ℕ) (t : Hit) → Rising (Earlier v) (given v.shown s d t)
-  given_rises s d Missed = tt
-  given_rises s d (At i k) =
+  given_rises : (s d : ℕ) (t : Option Hit) → Rising (Earlier v) (given v.shown s d t)
+  given_rises s d None = tt
+  given_rises s d (Some h) =
       collect_rises (passes_on v.shown s d i) (alone s d i) (Earlier v) (λ j. (λ y n. absurd n, tt)) apart 0 (v.shown.polygons d)
     where
+      i : ℕ
+      i = h.sample
+
       apart : (j k : ℕ) (x y : Candidate) → j < k → In x (alone s d i j) → In y (alone s d i k) → Earlier v x y
       apart j k x y l (inl e) (inl f) = inr (ap (λ (c : Candidate). c.deck) e ∙ sym (ap (λ (c : Candidate). c.deck) f), omega (arith, ap (λ (c : Candidate). c.polygon) e, ap (λ (c : Candidate). c.polygon) f))
       apart j k x y l (inl e) (inr n) = absurd n
@@ -142,21 +150,17 @@ module _ (v : View) where
   pub tried_is : (s d : ℕ) → TriedOn v s d (tried_of s (turn v.shown s d))
   tried_is s d = go (turn v.shown s d) (turn_is s d)
     where
-      go : (t : Hit) → TurnIs s d t → TriedOn v s d (tried_of s t)
-      go Missed h = inl (h, omega arith)
-      go (At i k) h = inr (i, h.first_hit, omega arith)
+      go : (t : Option Hit) → TurnIs s d t → TriedOn v s d (tried_of s t)
+      go None h = inl (h, omega arith)
+      go (Some f) h = inr (f.sample, h.first_hit, omega arith)
 
   pub count_is : (s d : ℕ) → CandidatesOn v s d (length (given v.shown s d (turn v.shown s d)))
   count_is s d = go (turn v.shown s d) (turn_is s d)
     where
-      go : (t : Hit) → TurnIs s d t → CandidatesOn v s d (length (given v.shown s d t))
-      go Missed h = inl (h, refl)
-      go (At i k) h =
-          inr (
-            i,
-            h.first_hit,
-            length_collect (passes_on v.shown s d i) (alone s d i) 0 (v.shown.polygons d),
-          )
+      go : (t : Option Hit) → TurnIs s d t → CandidatesOn v s d (length (given v.shown s d t))
+      go None h = inl (h, refl)
+      go (Some f) h =
+          inr (f.sample, h.first_hit, length_collect (passes_on v.shown s d f.sample) (alone s d f.sample) 0 (v.shown.polygons d))
 
   -- ---- the candidates of a step
   pub of_candidates : (s : ℕ) (c : Candidate) → In c (candidates v s) → IsCandidate v s c
@@ -187,12 +191,13 @@ module _ (v : View) where
   pub no_hit : (s : ℕ) → candidates v s ≡ [] → (d : ℕ) → Open v d → NoHitOn v s d
   no_hit s e d o = go (turn v.shown s d) (turn_is s d)
     where
-      go : (t : Hit) → TurnIs s d t → NoHitOn v s d
-      go Missed h = h
-      go (At i k) h =
+      go : (t : Option Hit) → TurnIs s d t → NoHitOn v s d
+      go None h = h
+      go (Some f) h =
+          let c = candidate s d f.sample f.polygon in
           absurd
-          (subst (In (candidate s d i k)) e
-          (in_candidates s (candidate s d i k) (record { of_step = refl; on_open = o; first_hit = h.first_hit; passes = h.passes })))
+          (subst (In c) e
+          (in_candidates s c (record { of_step = refl; on_open = o; first_hit = h.first_hit; passes = h.passes })))
 
   -- no hit, no candidate
   pub no_candidate : (s : ℕ) (c : Candidate) → ((d : ℕ) → Open v d → NoHitOn v s d) → IsCandidate v s c → ⊥
@@ -207,9 +212,9 @@ module _ (v : View) where
       sum_same v.opens (turn_tried v.shown s) (λ d. 10 * s + 1) v.decks (λ d l o. go d (turn v.shown s d) (turn_is s d) (no_hit s e d (l, o)))
       ∙ sum_equal v.opens (10 * s + 1) v.decks
     where
-      go : (d : ℕ) (t : Hit) → TurnIs s d t → NoHitOn v s d → tried_of s t ≡ 10 * s + 1
-      go d Missed h none = refl
-      go d (At i k) h none = absurd (none i h.first_hit.in_ring k h.passes)
+      go : (d : ℕ) (t : Option Hit) → TurnIs s d t → NoHitOn v s d → tried_of s t ≡ 10 * s + 1
+      go d None h none = refl
+      go d (Some f) h none = absurd (none f.sample h.first_hit.in_ring f.polygon h.passes)
 
   pub tried_before_is : (s : ℕ) → ((t : ℕ) → t < s → candidates v t ≡ []) → tried_before v s ≡ samples_below v s
   unfolding tried_before

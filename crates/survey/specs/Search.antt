@@ -1,11 +1,10 @@
 -- Document 01, sections 5 and 7: the search of one seat as it is computed, over what the seat sees.
-use Rattle.std.specs.Prelude.{ℕ, zero, suc, ◌+◌, ◌*◌, List, [], ◌∷◌, Bool, cond, length}
+use Rattle.std.specs.Prelude.{ℕ, zero, suc, ◌+◌, ◌*◌, List, [], ◌∷◌, Bool, cond, length, Option, Some, None}
 use Rattle.words.specs.Rows.{collect, sum_of}
 use Rattle.records.specs.declared.SeatRecord.{SeatRecord}
 use Rattle.records.specs.Record.{unplaced_record}
 use Rattle.hits.specs.declared.Candidate.{Candidate}
 use Rattle.hits.specs.declared.Hit.{Hit}
-use Rattle.hits.specs.declared.Hit.TheVariants.{At, Missed}
 use Rattle.hits.specs.Candidates.{candidate}
 use Rattle.hits.specs.Hits.{sample_hit, tried_of}
 use Rattle.survey.specs.Wishes.{nearer}
@@ -18,7 +17,7 @@ module _ (w : Shown) where
   passes_on s d i k = w.passes (candidate s d i k)
 
   -- deck d's turn in step s
-  unfoldable pub turn : ℕ → ℕ → Hit
+  unfoldable pub turn : ℕ → ℕ → Option Hit
   turn s d = sample_hit (passes_on s d) (w.polygons d) 0 (10 * s + 1)
 
   -- those of the n polygons from k on that pass there, in rising number
@@ -26,9 +25,9 @@ module _ (w : Shown) where
   passing s d i k n = collect (passes_on s d i) (λ j. candidate s d i j ∷ []) k n
 
   -- a hit gives all polygons that pass at its sample
-  abbrev pub given : ℕ → ℕ → Hit → List Candidate
-  given s d (At i k) = passing s d i 0 (w.polygons d)
-  given s d Missed = []
+  abbrev pub given : ℕ → ℕ → Option Hit → List Candidate
+  given s d (Some h) = passing s d h.sample 0 (w.polygons d)
+  given s d None = []
 
   abbrev pub turn_gives : ℕ → ℕ → List Candidate
   turn_gives s d = given s d (turn s d)

@@ -7,22 +7,22 @@ ghost use Rattle.survey.specs.Wishes.{choice_of, bit_of, is_open, gap_of, nearer
 
 use geometry::{Height, Vec2};
 
-// A seat names one deck or leaves the deck open.
-#[derive(Clone, Copy)]
+// A seat names one deck or leaves the deck open. An enum of its own and no Option: the document names its two cases.
+#[derive(Clone, Copy, Debug, PartialEq, Eq)]
 pub enum DeckChoice {
     AnyDeck,
     Named(usize),
 }
 
-// A seat has a wished height or none.
-#[derive(Clone, Copy)]
+// A seat has a wished height or none. An enum of its own and no Option: the document names its two cases.
+#[derive(Clone, Copy, Debug, PartialEq)]
 pub enum Wish {
     NoWish,
     Wished(f32),
 }
 
 // A seat names one deck or leaves the deck open, and has a wished height or none.
-#[derive(Clone, Copy)]
+#[derive(Clone, Copy, Debug, PartialEq)]
 pub struct Seat {
     pub place: Vec2,
     pub choice: DeckChoice,
@@ -30,13 +30,16 @@ pub struct Seat {
 }
 
 // The deck that a number names, or any.
-pub fn choice_of(deck: u32) -> DeckChoice
-    ensures { result ≡ choice_of deck }
-{
-    if deck == 0xFFFF_FFFF {
-        DeckChoice::AnyDeck
-    } else {
-        DeckChoice::Named(deck as usize)
+impl From<u32> for DeckChoice {
+    #[tactic(auto, unfolding(crate::specs::Wishes::choice_of))]
+    fn from(deck: u32) -> DeckChoice
+        ensures { result ≡ choice_of deck }
+    {
+        if deck == words::ALL_ONES {
+            DeckChoice::AnyDeck
+        } else {
+            DeckChoice::Named(deck as usize)
+        }
     }
 }
 
@@ -49,6 +52,7 @@ fn bit(byte: u8, place: usize) -> bool
 }
 
 // Whether deck d is open: it is not in the blocked set and, where a deck is named, it is that one.
+#[tactic(auto, unfolding(crate::specs::Wishes::is_open, crate::specs::Wishes::is_blocked))]
 pub fn is_open(blocked: &[u8], choice: DeckChoice, d: usize) -> bool
     requires { (length blocked.now ≡ 32) × (d < 256) }
     ensures { result ≡ is_open blocked.now choice d }
@@ -68,17 +72,13 @@ fn gap(h: f32, w: f32) -> f32
 }
 
 // Whether a seat with this wish prefers the height a to the height b, wherever they come in the list.
+#[tactic(auto, unfolding(crate::specs::Wishes::nearer))]
 pub fn prefers_height(wish: Wish, a: Height, b: Height) -> bool
     ensures { result ≡ nearer wish a b }
 {
-    match wish {
-        Wish::NoWish => false,
-        Wish::Wished(w) => match a {
-            Height::None => false,
-            Height::Known(h) => match b {
-                Height::None => true,
-                Height::Known(g) => gap(h, w) < gap(g, w),
-            },
-        },
+    match (wish, a, b) {
+        (Wish::Wished(w), Height::Known(h), Height::Known(g)) => gap(h, w) < gap(g, w),
+        (Wish::Wished(_), Height::Known(_), Height::None) => true,
+        _ => false,
     }
 }
