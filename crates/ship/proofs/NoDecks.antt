@@ -7,8 +7,9 @@ use mathlib.Core.List.{List, []}
 use lib.Dec.{eqb}
 use lib.ListN.{length}
 use borrow.Author.Tests.{eqb-true}
+use Rattle.answers.specs.declared.Refusal.TheVariants.{HeaderCut, ReachOutOfRange, StepsOutOfRange, TableCut, BlocksNotEndToEnd}
+use Rattle.std.specs.Prelude.{Ok}
 use Rattle.words.specs.Rows.{rows}
-use Rattle.answers.specs.declared.Check.TheVariants.{Passed}
 use Rattle.answers.specs.Checks.{ask, check_each}
 use Rattle.answers.proofs.Asking.{asked_yes, after_passed}
 use Rattle.ship.specs.Layout.{header_size, decks_in}
@@ -16,7 +17,9 @@ use Rattle.ship.specs.Decode.{decode}
 use Rattle.ship.specs.Questions.{end_to_end, question1, question2, question3, question4, question5, question6, header_check, first_no, header_alone}
 
 -- 2 passes, and 5 is 1 again
-alone : (q1 q3 q4 q6 : Bool) → ask q1 1 (ask q3 3 (ask q4 4 (ask q1 5 (ask q6 6 Passed)))) ≡ ask q1 1 (ask q3 3 (ask q4 4 (ask q6 6 Passed)))
+alone : (q1 q3 q4 q6 : Bool)
+    → ask q1 HeaderCut (ask q3 ReachOutOfRange (ask q4 StepsOutOfRange (ask q1 TableCut (ask q6 BlocksNotEndToEnd (Ok tt)))))
+    ≡ ask q1 HeaderCut (ask q3 ReachOutOfRange (ask q4 StepsOutOfRange (ask q6 BlocksNotEndToEnd (Ok tt))))
 alone false q3 q4 q6 = refl
 alone true q3 q4 q6 = refl
 
@@ -26,13 +29,13 @@ module _ (s : List ℕ) (none : decks_in s ≡ 0) where
   no_decks_asked = rw none (after_passed _ ∙ alone (question1 s) (question3 s) (question4 s) (eqb header_size (length s)))
 
   -- 'question 6 then wants the file to end with its header'
-  pub header_long : first_no s ≡ Passed → length s ≡ header_size
+  pub header_long : first_no s ≡ Ok tt → length s ≡ header_size
   unfolding header_alone
   header_long passed =
-      let q1 = asked_yes (question1 s) 1 _ (sym no_decks_asked ∙ passed) in
-      let q3 = asked_yes (question3 s) 3 _ q1.1 in
-      let q4 = asked_yes (question4 s) 4 _ q3.1 in
-      sym (eqb-true header_size (length s) (asked_yes (eqb header_size (length s)) 6 Passed q4.1).0)
+      let q1 = asked_yes (question1 s) HeaderCut _ (sym no_decks_asked ∙ passed) in
+      let q3 = asked_yes (question3 s) ReachOutOfRange _ q1.1 in
+      let q4 = asked_yes (question4 s) StepsOutOfRange _ q3.1 in
+      sym (eqb-true header_size (length s) (asked_yes (eqb header_size (length s)) BlocksNotEndToEnd (Ok tt) q4.1).0)
 
   pub no_decks : (decode s).decks ≡ []
   unfolding decode rows

@@ -1,9 +1,11 @@
+-- `decks_check` meets its contract.
 use borrow.Author.Rules.{rules}
+use Rattle.answers.proofs.Asking.{handed_on}
 use Rattle.ship.proofs.Asks.{decks_asks}
 use Rattle.ship.proofs.decks_check.Goals as goal
 
-pub returns-in-No : goal.returns-in-No
-returns-in-No c = search (decks_asks, rules)
+pub returns-in_err-deck_check : goal.returns-in_err-deck_check
+returns-in_err-deck_check c = search (c.in_err-deck_check.was, handed_on c.from_residual.ensures.1, decks_asks, rules)
 
 pub decks-preserved : goal.decks-preserved
 decks-preserved c = search (decks_asks, rules)
