@@ -9,14 +9,14 @@ use mir.Val.{Fits}
 use lib.ListN.{length}
 use Rattle.words.specs.Rows.{sum_all}
 use Rattle.words.proofs.Collecting.{sum_yes, sum_none}
-use Rattle.answers.specs.declared.Check.TheVariants.{Passed}
-use Rattle.ship.specs.declared.Blocks.{Blocks}
-use Rattle.ship.specs.Layout.{decks_in, blocks_at}
+use Rattle.ship.specs.Layout.{decks_in}
 use Rattle.ship.specs.Model.{Deck, deck_of, polygons_before, polygon_total}
 use Rattle.ship.specs.Decode.{decode}
-use Rattle.ship.specs.Questions.{first_no, DeckOfPassed}
-use Rattle.ship.proofs.Facts.{sound, decks_few}
-use Rattle.ship.proofs.ModelFacts.{deck_of_lem, decks_length, polygons_length}
+use Rattle.ship.specs.Questions.{first_no}
+use Rattle.ship.specs.Within.{DeckWithin}
+use Rattle.ship.proofs.Facts.{decks_few}
+use Rattle.ship.proofs.ModelFacts.{decks_length}
+use Rattle.std.specs.Prelude.{Ok}
 
 abbrev on_deck : List ℕ → ℕ → ℕ
 on_deck file j = length (deck_of (decode file) j).polygons
@@ -37,16 +37,16 @@ module _ {file : List ℕ} {d total j : ℕ} (h : Totalled file d total j) where
   pub totalled_few : j ≤ d → total ≤ 16777215 * d
   totalled_few l = omega (arith, h.few)
 
-  module _ {b : Blocks} (l : j < d) (there : d ≤ decks_in file) (deck : DeckOfPassed file b) where
-    pub totalled_fits : first_no file ≡ Passed → Fits w64 (total + b.polygons)
-    totalled_fits passed = record { fits = omega (arith, h.few, (sound deck).few_polygons, decks_few file passed) }
+  module _ {deck : Deck} {n : ℕ} (l : j < d) (within : DeckWithin deck) (size : n ≡ length deck.polygons) where
+    pub totalled_fits : first_no file ≡ Ok tt → d ≤ decks_in file → Fits w64 (total + n)
+    totalled_fits passed there = record { fits = omega (arith, h.few, within.few_polygons, decks_few file passed) }
 
-    pub totalled_more : b ≡ blocks_at file j → Totalled file d (total + b.polygons) (j + 1)
+    pub totalled_more : deck ≡ deck_of (decode file) j → Totalled file d (total + n) (j + 1)
     totalled_more is =
-        let e : on_deck file j ≡ b.polygons = ap (λ (k : Deck). length k.polygons) (deck_of_lem file j (omega arith)) ∙ polygons_length file (blocks_at file j) ∙ rw is in
+        let e : on_deck file j ≡ n = ap (λ (k : Deck). length k.polygons) (sym is) ∙ sym size in
         record {
           same = omega (arith, h.same, e, sum_yes (λ k. true) (on_deck file) j d l refl);
-          few = omega (arith, h.few, (sound deck).few_polygons);
+          few = omega (arith, h.few, within.few_polygons);
         }
 
 pub ruleset totals = (totalled_none, totalled_all, totalled_few, totalled_fits, totalled_more)
