@@ -1,13 +1,12 @@
 -- The first numbers of a slice: read, and one written over.
-use Prim.Native.Nat.{ℕ, ◌+◌, ◌*◌, ◌<◌, ◌≤◌}
+use Prim.Native.Nat.{ℕ, zero, suc, ◌*◌, ◌<◌, ◌≤◌}
 use native.Mathlib.Omega.{arith}
 use mathlib.Core.Path.{◌≡◌, refl, sym, ap, ◌∙◌}
 use mathlib.Core.List.{List, ◌++◌}
 use lib.ListN.{length, get_or, drop, set, replicate, length-append, length-drop, length-set, length-replicate, get_or-replicate}
 use lib.Seq.{drop_at}
-use Rattle.words.specs.Bytes.{number_at, bytes4, words_of, put_u32}
+use Rattle.words.specs.Bytes.{number_at, bytes4, joined, words_of, put_u32}
 use Rattle.words.proofs.Numbers.{length_words, words_read, words_write}
-use Rattle.words.proofs.Writing.{Rest, rest_all, rest_more_front, rest_front, length_bytes4}
 use Rattle.ship.specs.Layout.{number_size}
 use Rattle.islands.specs.Walk.{no_label, Numbers}
 
@@ -37,33 +36,13 @@ module _ {n : ℕ} {s : List ℕ} (h : Numbers n s) where
     pub rest_kept : drop (number_size * n) s' ≡ drop (number_size * n) s
     rest_kept = words_rest (set h.numbers k x) (drop (number_size * n) s) (length-set h.numbers k x ∙ h.long) written
 
--- ---- `no_labels`: the places before k have none
-pub record Filled (n : ℕ) (out₀ out : List ℕ) (k : ℕ) : Type 0 where
-  pub room : number_size * n ≤ length out₀
-  pub most : k ≤ n
-  pub rest : Rest bytes4 number_size 0 out₀ 0 (replicate n no_label) out k
-
-pub filled_first : {n : ℕ} {out : List ℕ} → number_size * n ≤ length out → Filled n out out 0
-filled_first h = record { room = h; most = omega arith; rest = rest_all }
-
-module _ {n : ℕ} {out₀ out : List ℕ} {k : ℕ} (f : Filled n out₀ out k) where
-  module _ (h : k < n) where
-    pub filled_place : number_size * k + number_size ≤ length out
-    filled_place = omega (arith, f.room, f.rest.long)
-
-    pub filled_more : {out' : List ℕ} → out' ≡ put_u32 out (number_size * k) no_label → Filled n out₀ out' (k + 1)
-    filled_more e =
-        let l = length-replicate n no_label in
-        record {
-          room = f.room;
-          most = omega arith;
-          rest = rest_more_front f.rest length_bytes4 (rw l h) (rw l f.room) (sym (get_or-replicate n k no_label 0 h)) refl e;
-        }
-
-  pub filled_done : n ≤ k → out ≡ words_of (replicate n no_label) ++ drop (number_size * n) out₀
-  filled_done h = let l = length-replicate n no_label in rw l at (rest_front f.rest length_bytes4 (rw l h))
-
-pub ruleset filling = (filled_first, filled_place, filled_more, filled_done)
+-- ---- `no_labels`: its bytes
+pub words_filled : (n : ℕ) → words_of (replicate n no_label) ≡ replicate (number_size * n) 255
+unfolding joined bytes4
+words_filled zero = refl
+words_filled (suc n) =
+    let e : number_size * suc n ≡ suc (suc (suc (suc (number_size * n)))) = omega arith in
+    rw (e, words_filled n)
 
 -- and then none has one
 module _ (n : ℕ) (out : List ℕ) (room : number_size * n ≤ length out) {out' : List ℕ} (filled : out' ≡ words_of (replicate n no_label) ++ drop (number_size * n) out) where

@@ -1,12 +1,10 @@
 -- Document 01, section 8, `bake_islands_detection` on a ship file's deck: its questions and its entries.
-use Rattle.std.specs.Prelude.{ℕ, ◌*◌, ◌≡◌, Bool, not, ◌&&◌, ◌||◌, List, eqb, ltb, ℤ, length, get_or}
+use Rattle.std.specs.Prelude.{ℕ, ◌*◌, ◌≡◌, Bool, not, ◌&&◌, ◌||◌, List, eqb, ltb, ℤ, length, get_or, Ok}
 use Rattle.words.specs.Bytes.{all_ones, bytes4}
 use Rattle.words.specs.Rows.{every, some, has}
-use Rattle.answers.specs.declared.Check.{Check}
-use Rattle.answers.specs.declared.Check.TheVariants.{Passed}
-use Rattle.answers.specs.declared.Answer.{Answer}
-use Rattle.answers.specs.Checks.{ask, after}
-use Rattle.answers.specs.Replies.{Reply, reply_of, Worked, WorkedCode}
+use Rattle.answers.specs.Checks.{ask, after, Check}
+use Rattle.answers.specs.Replies.{Reply, reply_of, Worked, WorkedCode, Answer}
+use Rattle.answers.specs.declared.Refusal.TheVariants.{NoSuchDeck, NoSuchNeighbour}
 use Rattle.ship.specs.Layout.{number_size, decks_in}
 use Rattle.ship.specs.Model.{Deck, neighbours_of, corners_of, deck_of}
 use Rattle.ship.specs.Decode.{decode}
@@ -46,7 +44,7 @@ question17_islands file deck = ltb deck (decks_in file)
 -- ---- the call
 unfoldable pub islands_check : List ℕ → ℕ → Check
 islands_check file deck =
-    after (first_no file) (ask (question17_islands file deck) 17 (ask (question19 (deck_of (decode file) deck)) 19 Passed))
+    after (first_no file) (ask (question17_islands file deck) NoSuchDeck (ask (question19 (deck_of (decode file) deck)) NoSuchNeighbour (Ok tt)))
 
 abbrev pub islands_reply : List ℕ → ℕ → Reply
 islands_reply file deck = reply_of (islands_check file deck) bytes4 (deck_labels (deck_of (decode file) deck))
@@ -64,5 +62,5 @@ IslandsCode file deck out out' work work' r = WorkedCode (islands_reply file dec
 -- what is written are the least numbers that reach
 abbrev pub LabelsLeast : List ℕ → ℕ → Type 0
 LabelsLeast file deck =
-    islands_check file deck ≡ Passed
+    islands_check file deck ≡ Ok tt
     → Labels (names (deck_of (decode file) deck)) (polygon_count (deck_of (decode file) deck)) (deck_labels (deck_of (decode file) deck))

@@ -2,11 +2,8 @@
 use Rattle.std.specs.Prelude.{ℕ, ◌+◌, ◌*◌, ◌<◌, ◌≤◌, ◌≡◌, Bool, true, not, cond, ◌⊎◌, List, ◌++◌, T, eqb, length, get_or, drop, replicate}
 use Rattle.words.specs.Bytes.{all_ones, number_at, words_of, put_u32}
 use Rattle.words.specs.Rows.{how_many}
-use Rattle.ship.specs.declared.Blocks.{Blocks}
 use Rattle.ship.specs.Layout.{number_size}
 use Rattle.ship.specs.Model.{Deck, neighbours_of, corners_of}
-use Rattle.ship.specs.Decode.{deck_at}
-use Rattle.ship.specs.Questions.{DeckOfPassed}
 use Rattle.islands.specs.Reach.{Reaches, IsLabel}
 use Rattle.islands.specs.Islands.{list_of, names, deck_labels, question19}
 
@@ -106,46 +103,42 @@ pub record Named (deck : Deck) (k c e : ℕ) : Type 0 where
   pub entry : Entry deck (get_or (corners_of deck k) corner 0) (length (list_of deck k corner)) e
 
 -- what reading a vertex's list needs, and what it does
-pub record ListReady (file : List ℕ) (b : Blocks) (v i : ℕ) (out work : List ℕ) (tail : ℕ) : Type 0 where
-  pub deck_passed : DeckOfPassed file b
-  pub vertex_there : v < b.vertices
-  pub start_there : i < b.polygons
-  pub walking : Walking (names (deck_at file b)) b.polygons i out work tail
-  pub reached : (e : ℕ) → Entry (deck_at file b) v (length (neighbours_of (deck_at file b) v)) e → Reaches (names (deck_at file b)) i e
+pub record ListReady (deck : Deck) (v i : ℕ) (out work : List ℕ) (tail : ℕ) : Type 0 where
+  pub vertex_there : v < length deck.vertices
+  pub start_there : i < length deck.polygons
+  pub walking : Walking (names deck) (length deck.polygons) i out work tail
+  pub reached : (e : ℕ) → Entry deck v (length (neighbours_of deck v)) e → Reaches (names deck) i e
 
-abbrev pub ListRead : List ℕ → Blocks → ℕ → ℕ → List ℕ → List ℕ → List ℕ → List ℕ → ℕ → ℕ → Type 0
-ListRead file b v i out out' work work' tail tail' =
-    Spread (names (deck_at file b)) b.polygons i (Entry (deck_at file b) v (length (neighbours_of (deck_at file b) v))) out out' work work' tail tail'
+abbrev pub ListRead : Deck → ℕ → ℕ → List ℕ → List ℕ → List ℕ → List ℕ → ℕ → ℕ → Type 0
+ListRead deck v i out out' work work' tail tail' =
+    Spread (names deck) (length deck.polygons) i (Entry deck v (length (neighbours_of deck v))) out out' work work' tail tail'
 
 -- the lists of a polygon's vertices
-pub record PolygonReady (file : List ℕ) (b : Blocks) (k i : ℕ) (out work : List ℕ) (tail : ℕ) : Type 0 where
-  pub deck_passed : DeckOfPassed file b
-  pub polygon_there : k < b.polygons
-  pub start_there : i < b.polygons
-  pub walking : Walking (names (deck_at file b)) b.polygons i out work tail
-  pub reached : Reaches (names (deck_at file b)) i k
+pub record PolygonReady (deck : Deck) (k i : ℕ) (out work : List ℕ) (tail : ℕ) : Type 0 where
+  pub polygon_there : k < length deck.polygons
+  pub start_there : i < length deck.polygons
+  pub walking : Walking (names deck) (length deck.polygons) i out work tail
+  pub reached : Reaches (names deck) i k
 
-abbrev pub PolygonRead : List ℕ → Blocks → ℕ → ℕ → List ℕ → List ℕ → List ℕ → List ℕ → ℕ → ℕ → Type 0
-PolygonRead file b k i out out' work work' tail tail' =
-    Spread (names (deck_at file b)) b.polygons i (Named (deck_at file b) k (length (corners_of (deck_at file b) k))) out out' work work' tail tail'
+abbrev pub PolygonRead : Deck → ℕ → ℕ → List ℕ → List ℕ → List ℕ → List ℕ → ℕ → ℕ → Type 0
+PolygonRead deck k i out out' work work' tail tail' =
+    Spread (names deck) (length deck.polygons) i (Named deck k (length (corners_of deck k))) out out' work work' tail tail'
 
 -- the walk from polygon i
-pub record WalkReady (file : List ℕ) (b : Blocks) (i : ℕ) (out work : List ℕ) (tail : ℕ) : Type 0 where
-  pub deck_passed : DeckOfPassed file b
-  pub start_there : i < b.polygons
-  pub swept : Swept (names (deck_at file b)) b.polygons i out work tail
+pub record WalkReady (deck : Deck) (i : ℕ) (out work : List ℕ) (tail : ℕ) : Type 0 where
+  pub start_there : i < length deck.polygons
+  pub swept : Swept (names deck) (length deck.polygons) i out work tail
 
-pub record Walked (file : List ℕ) (b : Blocks) (i : ℕ) (out out' work work' : List ℕ) (tail' : ℕ) : Type 0 where
-  pub swept : Swept (names (deck_at file b)) b.polygons (i + 1) out' work' tail'
-  pub frame : Frame b.polygons out out' work work'
+pub record Walked (deck : Deck) (i : ℕ) (out out' work work' : List ℕ) (tail' : ℕ) : Type 0 where
+  pub swept : Swept (names deck) (length deck.polygons) (i + 1) out' work' tail'
+  pub frame : Frame (length deck.polygons) out out' work work'
 
 -- all walks
-pub record LabelReady (file : List ℕ) (b : Blocks) (out work : List ℕ) : Type 0 where
-  pub deck_passed : DeckOfPassed file b
-  pub entries_inside : question19 (deck_at file b) ≡ true
-  pub room : number_size * b.polygons ≤ length out
-  pub wide : number_size * b.polygons ≤ length work
+pub record LabelReady (deck : Deck) (out work : List ℕ) : Type 0 where
+  pub entries_inside : question19 deck ≡ true
+  pub room : number_size * length deck.polygons ≤ length out
+  pub wide : number_size * length deck.polygons ≤ length work
 
-pub record LabelsPut (deck : Deck) (n : ℕ) (out out' work work' : List ℕ) : Type 0 where
-  pub out_is : out' ≡ words_of (deck_labels deck) ++ drop (number_size * n) out
+pub record LabelsPut (deck : Deck) (out out' work work' : List ℕ) : Type 0 where
+  pub out_is : out' ≡ words_of (deck_labels deck) ++ drop (number_size * length deck.polygons) out
   pub work_is : work' ≡ replicate (length work) 0

@@ -5,17 +5,16 @@ ghost use Rattle.std.specs.Prelude.{◌≡◌, ◌||◌, ◌++◌, ◌+◌, ◌*
 ghost use Rattle.words.specs.Bytes.{all_ones, words_of, put_u32, number_at};
 ghost use Rattle.ship.specs.Layout.{number_size};
 ghost use Rattle.ship.specs.Model.{neighbours_of};
-ghost use Rattle.ship.specs.Decode.{deck_at};
-ghost use Rattle.ship.specs.Questions.{DeckOfPassed};
 ghost use Rattle.islands.specs.Islands.{list_inside, polygon_inside, question19, islands_check, IslandsWorked, LabelsLeast};
 ghost use Rattle.islands.specs.Walk.{no_label, Marked, MarkReady, ListReady, ListRead, PolygonReady, PolygonRead};
 ghost use Rattle.islands.specs.Walk.{WalkReady, Walked, LabelReady, LabelsPut};
 
-use answers::{Answer, Check};
-use ship::{Blocks, NUMBER_SIZE};
+use answers::{Answer, Check, Refusal};
+use decks::Deck;
+use ship::NUMBER_SIZE;
 
 // An entry that is no polygon, the outside. In a label's place: none yet.
-const ALL_ONES: usize = 0xFFFF_FFFF;
+const ALL_ONES: usize = words::ALL_ONES as usize;
 
 // Number k of a slice.
 fn number_at(s: &[u8], k: usize) -> usize
@@ -40,70 +39,45 @@ fn entry_inside(e: usize, n: usize) -> bool
 }
 
 // Of the list of vertex v.
-fn list_inside(file: &[u8], b: Blocks, v: usize, n: usize) -> bool
-    requires { DeckOfPassed file.now b × (v < b.vertices) }
-    ensures { result ≡ list_inside n (neighbours_of (deck_at file.now b) v) }
+#[tactic(auto, unfolding(crate::specs::Islands::list_inside, words::specs::Rows::every))]
+fn list_inside(deck: &Deck<'_>, v: usize, n: usize) -> bool
+    requires { v < length deck.now.vertices }
+    ensures { result ≡ list_inside n (neighbours_of deck.now v) }
 {
-    let end = decks::neighbour_count(file, b, v);
-    let mut j: usize = 0;
-    'entries: while j < end {
-        if !entry_inside(decks::neighbour(file, b, v, j) as usize, n) {
-            return false;
-        }
-        j += 1;
-    }
-    true
+    (0..deck.neighbour_count(v)).all(|j| entry_inside(deck.neighbour(v, j) as usize, n))
 }
 
 // Of the lists of polygon k's vertices.
-fn polygon_inside(file: &[u8], b: Blocks, k: usize, n: usize) -> bool
-    requires { DeckOfPassed file.now b × (k < b.polygons) }
-    ensures { result ≡ polygon_inside (deck_at file.now b) n k }
+#[tactic(auto, unfolding(crate::specs::Islands::polygon_inside, words::specs::Rows::every))]
+fn polygon_inside(deck: &Deck<'_>, k: usize, n: usize) -> bool
+    requires { k < length deck.now.polygons }
+    ensures { result ≡ polygon_inside deck.now n k }
 {
-    let end = decks::corner_count(file, b, k);
-    let mut c: usize = 0;
-    'corners: while c < end {
-        if !list_inside(file, b, decks::corner(file, b, k, c), n) {
-            return false;
-        }
-        c += 1;
-    }
-    true
+    (0..deck.corner_count(k)).all(|c| list_inside(deck, deck.corner(k, c), n))
 }
 
 // Of all polygons.
-pub fn entries_inside(file: &[u8], b: Blocks) -> bool
-    requires { DeckOfPassed file.now b }
-    ensures { result ≡ question19 (deck_at file.now b) }
+#[tactic(auto, unfolding(crate::specs::Islands::question19, words::specs::Rows::every))]
+pub fn entries_inside(deck: &Deck<'_>) -> bool
+    ensures { result ≡ question19 deck.now }
 {
-    let n = b.polygons;
-    let mut k: usize = 0;
-    'polygons: while k < n {
-        if !polygon_inside(file, b, k, n) {
-            return false;
-        }
-        k += 1;
-    }
-    true
+    let n = deck.polygon_count();
+    (0..n).all(|k| polygon_inside(deck, k, n))
 }
 
 // Questions 1 to 19.
 fn islands_check(file: &[u8], deck: u32) -> Check
     ensures { result ≡ islands_check file.now deck }
 {
-    match ship::first_no(file) {
-        Check::No(number) => return Check::No(number),
-        Check::Passed => {}
-    }
+    ship::first_no(file)?;
     let d = deck as usize;
     if d >= decks::deck_count(file) {
-        return Check::No(17);
+        return Err(Refusal::NoSuchDeck);
     }
-    let b = decks::deck_blocks(file, d);
-    if !entries_inside(file, b) {
-        return Check::No(19);
+    if !entries_inside(&Deck::of(file, d)) {
+        return Err(Refusal::NoSuchNeighbour);
     }
-    Check::Passed
+    Ok(())
 }
 
 // No label in any of the n places.
@@ -111,11 +85,7 @@ fn no_labels(out: &mut [u8], n: usize)
     requires { number_size * n ≤ length out.old }
     ensures { out.new ≡ words_of (replicate n no_label) ++ drop (number_size * n) out.old }
 {
-    let mut k: usize = 0;
-    'places: while k < n {
-        put_number(out, k, ALL_ONES);
-        k += 1;
-    }
+    out[..NUMBER_SIZE * n].fill(0xFF);
 }
 
 // Polygon e, which i reaches: if it has no label yet it gets i, and goes to the end of the queue. Returns where the queue ends.
@@ -133,85 +103,78 @@ fn mark(e: usize, i: usize, tail: usize, out: &mut [u8], work: &mut [u8]) -> usi
 
 // Marks each polygon in the list of vertex v.
 fn read_list(
-    file: &[u8],
-    b: Blocks,
+    deck: &Deck<'_>,
     v: usize,
     i: usize,
     tail: usize,
     out: &mut [u8],
     work: &mut [u8],
 ) -> usize
-    requires { ListReady file.now b v i out.old work.old tail }
-    ensures { ListRead file.now b v i out.old out.new
+    requires { ListReady deck.now v i out.old work.old tail }
+    ensures { ListRead deck.now v i out.old out.new
         work.old work.new tail result }
 {
-    let end = decks::neighbour_count(file, b, v);
+    let end = deck.neighbour_count(v);
     let mut t = tail;
-    let mut j: usize = 0;
-    'entries: while j < end {
-        let e = decks::neighbour(file, b, v, j) as usize;
-        j += 1;
-        if e != ALL_ONES {
-            t = mark(e, i, t, out, work);
+    'entries: for j in 0..end {
+        let e = deck.neighbour(v, j) as usize;
+        if e == ALL_ONES {
+            continue;
         }
+        t = mark(e, i, t, out, work);
     }
     t
 }
 
 // Marks each polygon in the lists of polygon k's vertices.
 fn read_lists(
-    file: &[u8],
-    b: Blocks,
+    deck: &Deck<'_>,
     k: usize,
     i: usize,
     tail: usize,
     out: &mut [u8],
     work: &mut [u8],
 ) -> usize
-    requires { PolygonReady file.now b k i out.old work.old tail }
-    ensures { PolygonRead file.now b k i out.old out.new
+    requires { PolygonReady deck.now k i out.old work.old tail }
+    ensures { PolygonRead deck.now k i out.old out.new
         work.old work.new tail result }
 {
-    let end = decks::corner_count(file, b, k);
+    let end = deck.corner_count(k);
     let mut t = tail;
-    let mut c: usize = 0;
-    'corners: while c < end {
-        let v = decks::corner(file, b, k, c);
-        c += 1;
-        t = read_list(file, b, v, i, t, out, work);
+    'corners: for c in 0..end {
+        let v = deck.corner(k, c);
+        t = read_list(deck, v, i, t, out, work);
     }
     t
 }
 
 // Marks all that i reaches. The queue in `work` is never reset, so each polygon is put there once.
-fn walk(file: &[u8], b: Blocks, i: usize, tail: usize, out: &mut [u8], work: &mut [u8]) -> usize
-    requires { WalkReady file.now b i out.old work.old tail }
-    ensures { Walked file.now b i out.old out.new work.old work.new result }
+fn walk(deck: &Deck<'_>, i: usize, tail: usize, out: &mut [u8], work: &mut [u8]) -> usize
+    requires { WalkReady deck.now i out.old work.old tail }
+    ensures { Walked deck.now i out.old out.new work.old work.new result }
 {
     let mut t = mark(i, i, tail, out, work);
     let mut head = tail;
+    // A while: the end moves.
     'queue: while head < t {
         let k = number_at(work, head);
         head += 1;
-        t = read_lists(file, b, k, i, t, out, work);
+        t = read_lists(deck, k, i, t, out, work);
     }
     t
 }
 
 // Walks from each polygon in turn, so that the first to reach another is the least.
-pub fn label_all(file: &[u8], b: Blocks, out: &mut [u8], work: &mut [u8])
-    requires { LabelReady file.now b out.old work.old }
-    ensures { LabelsPut (deck_at file.now b) b.polygons out.old out.new
+pub fn label_all(deck: &Deck<'_>, out: &mut [u8], work: &mut [u8])
+    requires { LabelReady deck.now out.old work.old }
+    ensures { LabelsPut deck.now out.old out.new
         work.old work.new }
 {
-    let n = b.polygons;
+    let n = deck.polygon_count();
     no_labels(out, n);
     let mut tail: usize = 0;
-    let mut i: usize = 0;
-    'starts: while i < n {
-        let at = i;
-        i += 1;
-        tail = walk(file, b, at, tail, out, work);
+    'starts: for i in 0..n {
+        tail = walk(deck, i, tail, out, work);
     }
     words::clear(work);
 }
@@ -222,18 +185,15 @@ pub fn bake_islands_detection(file: &[u8], deck: u32, out: &mut [u8], work: &mut
         work.old work.new result }
     ensures labelled { LabelsLeast file.now deck }
 {
-    match islands_check(file, deck) {
-        Check::No(number) => return Answer::Refused(number),
-        Check::Passed => {}
-    }
-    let b = decks::deck_blocks(file, deck as usize);
-    let n = b.polygons;
+    islands_check(file, deck)?;
+    let labelled = Deck::of(file, deck as usize);
+    let n = labelled.polygon_count();
     if !answers::room_for(NUMBER_SIZE, n, work.len()) {
-        return Answer::Refused(20);
+        return Err(Refusal::NoRoom);
     }
     if !answers::room_for(NUMBER_SIZE, n, out.len()) {
-        return Answer::Refused(20);
+        return Err(Refusal::NoRoom);
     }
-    label_all(file, b, out, work);
-    Answer::Wrote(n)
+    label_all(&labelled, out, work);
+    Ok(n)
 }

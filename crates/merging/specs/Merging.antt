@@ -1,8 +1,7 @@
 -- The merging of a list of packed polygons that stands in lent bytes, one number after the other.
-use Rattle.std.specs.Prelude.{ℕ, ◌*◌, ◌<◌, ◌≤◌, ◌≡◌, List, length}
+use Rattle.std.specs.Prelude.{ℕ, ◌*◌, ◌<◌, ◌≤◌, ◌≡◌, List, length, Ok}
 use Rattle.words.specs.Bytes.{number_at, slice, words_of}
 use Rattle.words.specs.Rows.{rows}
-use Rattle.answers.specs.declared.Check.TheVariants.{Passed}
 use Rattle.ship.specs.Layout.{number_size}
 use Rattle.ship.specs.Decode.{decode}
 use Rattle.ship.specs.Questions.{first_no}
@@ -19,7 +18,7 @@ staying file list n = merged (touches (decode file)) (numbers_in list n)
 
 -- a passed file, and n of its polygons in rising order, which is the order of candidates
 pub record ListReady (file list : List ℕ) (n : ℕ) : Type 0 where
-  pub passed : first_no file ≡ Passed
+  pub passed : first_no file ≡ Ok tt
   pub room : number_size * n ≤ length list
   pub there : (k : ℕ) → k < n → PolygonThere file (number_at list k)
   pub rising : (j k : ℕ) → j < k → k < n → number_at list j < number_at list k

@@ -4,7 +4,7 @@
 ghost use Rattle.merging.specs.Merging.{ListReady, ListMerged};
 ghost use Rattle.merging.specs.Flood.{SwapReady, Swapped, PartReady, Parted, FloodReady, Flooded};
 
-// The numbers at i and w change places.
+// The numbers at i and w change places. They are 4 bytes each, and may be one: a slice's own swaps take single bytes, or parts that lie apart.
 fn swap(list: &mut [u8], i: usize, w: usize)
     requires { SwapReady list.old i w }
     ensures { Swapped list.old list.new i w }
@@ -20,10 +20,8 @@ fn part(file: &[u8], list: &mut [u8], a: u32, t: usize, n: usize) -> usize
     requires { PartReady file.now list.old a t n }
     ensures { Parted file.now list.old list.new a n t result }
 {
-    let mut i = n;
     let mut w = n;
-    'numbers: while i > t {
-        i -= 1;
+    'numbers: for i in (t..n).rev() {
         let x = words::u32_at(list, 4 * i);
         if !touching::touches(file, a, x) {
             w -= 1;
@@ -40,6 +38,7 @@ fn flood(file: &[u8], list: &mut [u8], head: usize, n: usize) -> usize
 {
     let mut h = head;
     let mut t = head + 1;
+    // A while: the end moves.
     'waiting: while h < t {
         let a = words::u32_at(list, 4 * h);
         t = part(file, list, a, t, n);
@@ -56,6 +55,7 @@ pub fn merge_touching_readings(file: &[u8], list: &mut [u8], n: usize) -> usize
 {
     let mut kept: usize = 0;
     let mut t: usize = 0;
+    // A while: the start of the rest moves by more than one.
     'left: while t < n {
         let first = words::u32_at(list, 4 * t);
         t = flood(file, list, t, n);

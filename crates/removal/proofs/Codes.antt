@@ -4,10 +4,9 @@ use native.Mathlib.Omega.{arith}
 use mathlib.Core.Path.{◌≡◌, refl}
 use mathlib.Core.List.{List}
 use lib.ListN.{length}
-use Rattle.answers.specs.declared.Answer.{Answer}
-use Rattle.answers.specs.declared.Answer.TheVariants.{Refused, Wrote}
-use Rattle.answers.specs.Replies.{AnswerFits}
+use Rattle.answers.specs.Replies.{AnswerFits, Answer}
 use Rattle.answers.proofs.Replying.{wrote_check, wrote_count}
+use Rattle.std.specs.Prelude.{Ok, Err}
 use Rattle.unstitched.specs.declared.Stitches.{Stitches}
 use Rattle.unstitched.specs.NewFile.{RemovalReplied}
 
@@ -16,5 +15,5 @@ pub removal_fits : (which : Stitches) (file : List ℕ) {out out' : List ℕ} {r
 removal_fits which file {out} {out'} {r} h l = go r refl
   where
     go : (a : Answer) → r ≡ a → AnswerFits a
-    go (Wrote n) e = omega (arith, wrote_count h e, (wrote_check h e).1)
-    go (Refused number) e = tt
+    go (Ok n) e = omega (arith, wrote_count h e, (wrote_check h e).1)
+    go (Err number) e = tt

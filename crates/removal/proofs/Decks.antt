@@ -9,7 +9,6 @@ use mir.Val.{Fits}
 use lib.ListN.{length, length-append}
 use Rattle.words.specs.Bytes.{slice, splice, Put}
 use Rattle.words.proofs.Copying.{put_put, put_long}
-use Rattle.answers.specs.declared.Check.TheVariants.{Passed}
 use Rattle.ship.specs.declared.Blocks.{Blocks}
 use Rattle.ship.specs.Layout.{number_size, header_size, deck_row_size, decks_in, blocks_position, blocks_at}
 use Rattle.ship.specs.Questions.{first_no, DeckOfPassed}
@@ -21,6 +20,7 @@ use Rattle.removal.proofs.PutLoop.{PiecesPut, pieces_all, pieces_none, pieces_ro
 use Rattle.unstitched.proofs.OldPlaces.{deck_laid}
 use Rattle.unstitched.proofs.Pieces.{slice_length}
 use Rattle.unstitched.proofs.NewPlaces.{blocks_in, parts_length}
+use Rattle.std.specs.Prelude.{Ok}
 
 -- ---- `put_rest`
 module _ {s : List ℕ} {b : Blocks} {out : List ℕ} {at : ℕ} (h : PartReady s b (rest_of s b) out at) where
@@ -93,7 +93,7 @@ pub ruleset deck = (v_ready, n_ready, rest_ready, deck_long, deck_put)
 
 -- ---- `put_decks`: the decks before d are put
 pub record DecksPut (which : Stitches) (s out₀ out : List ℕ) (at d : ℕ) : Type 0 where
-  pub passed : first_no s ≡ Passed
+  pub passed : first_no s ≡ Ok tt
   pub put : PiecesPut (λ k. true) (blocks_in which s) (decks_in s) out₀ (blocks_position s) out at d
 
 pub decks_all : {which : Stitches} {s out : List ℕ} {n : ℕ} → FileReady which s out → n ≡ decks_in s → DecksPut which s out out (header_size + deck_row_size * n) 0

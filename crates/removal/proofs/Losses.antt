@@ -10,7 +10,6 @@ use lib.ListN.{length, get_or, length-append, get_or-append}
 use lib.Seq.{get_or-append-add}
 use Rattle.words.specs.Rows.{collect, collect_all}
 use Rattle.words.proofs.Collecting.{collect_yes, collect_none}
-use Rattle.answers.specs.declared.Check.TheVariants.{Passed}
 use Rattle.ship.specs.declared.Blocks.{Blocks}
 use Rattle.ship.specs.Layout.{number_size, blocks_per_deck, decks_in, blocks_position, extent_at, block_at, row_position, pair_size, blocks_at}
 use Rattle.ship.specs.Questions.{first_no, DeckOfPassed}
@@ -22,6 +21,7 @@ use Rattle.unstitched.proofs.Entries.{kept_few}
 use Rattle.unstitched.proofs.OldPlaces.{block_start, block_first, block_end, Laid, laid, deck_start, deck_end, counts, count_is}
 use Rattle.unstitched.proofs.NewDeck.{blocks_length}
 use Rattle.unstitched.proofs.NewPlaces.{blocks_in, lengths_length, parts_length}
+use Rattle.std.specs.Prelude.{Ok}
 
 -- ---- `lost_in_deck`
 module _ {s : List ℕ} {b : Blocks} (deck : DeckOfPassed s b) where
@@ -52,7 +52,7 @@ in_list f size each (suc n) i (suc d) k z h l =
     let j : i + suc d ≡ i + 1 + d = omega arith in
     rw (e, j) (get_or-append-add (f i) (collect_all f (i + 1) n) (size * d + k) z ∙ in_list f size each n (i + 1) d k z (omega arith) l)
 
-module _ (which : Stitches) (s : List ℕ) (passed : first_no s ≡ Passed) where
+module _ (which : Stitches) (s : List ℕ) (passed : first_no s ≡ Ok tt) where
   length_at : (d k : ℕ) → d < decks_in s → k < blocks_per_deck → get_or (block_lengths which s) (blocks_per_deck * d + k) 0 ≡ get_or (new_lengths which s d (blocks_at s d)) k 0
   length_at d k h l =
       let e : 0 + d ≡ d = omega arith in
@@ -99,13 +99,13 @@ pub ruleset block_losses = (block_same, block_less)
 
 -- ---- `new_size`: the decks before d lost so many bytes
 pub record Shrunk (which : Stitches) (s : List ℕ) (lost d : ℕ) : Type 0 where
-  pub passed : first_no s ≡ Passed
+  pub passed : first_no s ≡ Ok tt
   pub below : d ≤ decks_in s
   pub few : lost ≤ block_start s (blocks_per_deck * d)
   pub same : blocks_position s + length (all_blocks which s) + lost
       ≡ block_start s (blocks_per_deck * d) + length (collect_all (blocks_in which s) d (decks_in s - d))
 
-pub shrunk_all : (which : Stitches) {s : List ℕ} → first_no s ≡ Passed → Shrunk which s 0 0
+pub shrunk_all : (which : Stitches) {s : List ℕ} → first_no s ≡ Ok tt → Shrunk which s 0 0
 unfolding all_blocks
 shrunk_all which {s} passed =
     let e : decks_in s - 0 ≡ decks_in s = omega arith in

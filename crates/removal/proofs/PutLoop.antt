@@ -5,11 +5,10 @@ use mathlib.Core.Path.{◌≡◌, refl, sym, ap, ◌∙◌}
 use mathlib.Core.Bool.{Bool, true, false}
 use mathlib.Core.List.{List}
 use lib.ListN.{length, length-append}
-use Rattle.words.specs.Bytes.{splice, slice, Put}
+use Rattle.words.specs.Bytes.{splice, Put}
 use Rattle.words.specs.Rows.{collect}
 use Rattle.words.proofs.Splice.{length_splice, splice_splice, splice_nil}
 use Rattle.words.proofs.Collecting.{collect_yes, collect_no, collect_none}
-use Rattle.unstitched.proofs.Pieces.{slice_length}
 
 -- what all pieces write is what those from i on write into what stands there now
 pub record PiecesPut (p : ℕ → Bool) (f : ℕ → List ℕ) (n : ℕ) (out₀ : List ℕ) (at₀ : ℕ) (out : List ℕ) (at i : ℕ) : Type 0 where
@@ -52,10 +51,3 @@ module _ {p : ℕ → Bool} {f : ℕ → List ℕ} {n : ℕ} {out₀ : List ℕ}
               same = c.same ∙ ap (splice out at) (collect_yes p f i n h e) ∙ sym (splice_splice out at (f i) pieces_room later) ∙ rw (w, q);
               ends = omega (arith, left_is, c.ends);
             }
-
--- ---- `copy_part`
-pub part_copied : (s : List ℕ) (from size : ℕ) {out out' : List ℕ} {at : ℕ} → from + size ≤ length s → out' ≡ splice out at (slice s from (from + size - from))
-    → Put out at (slice s from size) out' (at + size)
-part_copied s from size h e =
-    let n : from + size - from ≡ size = omega arith in
-    record { out_is = rw n at e; next_is = rw (slice_length s from size h) }

@@ -6,11 +6,11 @@ use mathlib.Core.List.{List, ◌++◌}
 use lib.ListN.{length, length-append}
 use Rattle.words.specs.Bytes.{slice, splice, Put}
 use Rattle.words.proofs.Splice.{splice_splice}
-use Rattle.answers.specs.declared.Check.{Check}
-use Rattle.answers.specs.declared.Check.TheVariants.{Passed}
-use Rattle.answers.specs.declared.Answer.TheVariants.{Refused, Wrote}
 use Rattle.answers.proofs.Asking.{said_passed}
 use Rattle.answers.proofs.Replying.{replied_refused, replied_short, replied_written}
+use Rattle.answers.specs.Checks.{Check}
+use Rattle.std.specs.Prelude.{Ok, Err}
+use Rattle.answers.specs.declared.Refusal.TheVariants.{NoRoom}
 use Rattle.ship.specs.Layout.{header_size, blocks_position}
 use Rattle.ship.specs.Questions.{first_no}
 use Rattle.ship.proofs.Facts.{header_there}
@@ -46,15 +46,15 @@ module _ {which : Stitches} {s out : List ℕ} (h : FileReady which s out) where
 pub ruleset file = (header_inside, header_room, file_put)
 
 -- ---- `remove`; r is what the file's questions returned
-module _ (which : Stitches) (s : List ℕ) {out : List ℕ} {r : Check} {size : ℕ} (asked : r ≡ first_no s) (yes : r ≡ Passed) (is : size ≡ length (new_file which s)) where
-  pub removal_short : length out < size → RemovalReplied which s out out (Refused 20)
+module _ (which : Stitches) (s : List ℕ) {out : List ℕ} {r : Check} {size : ℕ} (asked : r ≡ first_no s) (yes : r ≡ Ok tt) (is : size ≡ length (new_file which s)) where
+  pub removal_short : length out < size → RemovalReplied which s out out (Err NoRoom)
   removal_short l = replied_short asked yes (omega arith)
 
   module _ (l : size ≤ length out) where
     pub file_ready : FileReady which s out
     file_ready = record { passed = sym asked ∙ yes; room = omega arith }
 
-    pub removal_written : {out' : List ℕ} → out' ≡ splice out 0 (new_file which s) → RemovalReplied which s out out' (Wrote size)
+    pub removal_written : {out' : List ℕ} → out' ≡ splice out 0 (new_file which s) → RemovalReplied which s out out' (Ok size)
     unfolding splice
     removal_written o =
         let z : 0 + length (new_file which s) ≡ length (new_file which s) = omega arith in

@@ -10,7 +10,6 @@ use lib.ListN.{length, get_or, drop, drop_of_length-le}
 use lib.Seq.{drop-cons}
 use Rattle.words.specs.Bytes.{bytes4, joined, words_of, splice}
 use Rattle.words.proofs.Splice.{length_splice, splice_splice, splice_nil}
-use Rattle.answers.specs.declared.Check.TheVariants.{Passed}
 use Rattle.ship.specs.declared.Extent.{Extent}
 use Rattle.ship.specs.Layout.{header_size, pair_size, blocks_per_deck, decks_in, blocks_position, block_at}
 use Rattle.ship.specs.Questions.{first_no}
@@ -21,6 +20,7 @@ use Rattle.unstitched.specs.NewFile.{pairs, new_table, block_lengths}
 use Rattle.removal.specs.Parts.{FileReady, LostInBlock}
 use Rattle.unstitched.proofs.OldPlaces.{block_start, block_first, block_next, block_here}
 use Rattle.unstitched.proofs.NewPlaces.{all_lengths, parts_length}
+use Rattle.std.specs.Prelude.{Ok}
 
 two_words : (a n : ℕ) (rest : List ℕ) → words_of (a ∷ n ∷ rest) ≡ words_of (a ∷ n ∷ []) ++ words_of rest
 unfolding joined bytes4
@@ -32,7 +32,7 @@ two_long a n = refl
 
 -- the pairs before number j are put; block j begins at `next` now
 pub record TablePut (which : Stitches) (s out₀ out : List ℕ) (lost j : ℕ) : Type 0 where
-  pub passed : first_no s ≡ Passed
+  pub passed : first_no s ≡ Ok tt
   pub room : blocks_position s ≤ length out₀
   pub long : length out ≡ length out₀
   pub next : ℕ

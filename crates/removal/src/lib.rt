@@ -3,14 +3,13 @@
 
 ghost use Rattle.std.specs.Prelude.{◌≡◌, ◌+◌, ◌*◌, ◌≤◌, ◌<◌, length};
 ghost use Rattle.words.specs.Bytes.{words_of, slice, splice, Put};
-ghost use Rattle.answers.specs.declared.Check.TheVariants.{Passed};
 ghost use Rattle.ship.specs.Layout.{header_size, blocks_per_deck, list_in_vertex, decks_in, blocks_position, blocks_at};
 ghost use Rattle.ship.specs.Questions.{first_no};
 ghost use Rattle.unstitched.specs.declared.Stitches.TheVariants.{All, ToLayer};
 ghost use Rattle.unstitched.specs.NewFile.{new_vertex, new_v, new_n, new_blocks, new_table, new_file, RemovalReplied, RemovalSound, rest_of, all_blocks, new_extent};
 ghost use Rattle.removal.specs.Parts.{PartReady, DeckReady, FileReady, ListReady, ListPut, LostInBlock, LostInDeck};
 
-use answers::{Answer, Check};
+use answers::{Answer, Refusal};
 use ship::{
     BLOCKS_PER_DECK, Blocks, DECK_OFFSET_SIZE, DECK_ROW_SIZE, FIRST_LIST, HEADER_SIZE,
     LIST_IN_VERTEX, NUMBER_SIZE, PAIR_SIZE, VERTEX_SIZE,
@@ -22,8 +21,7 @@ fn copy_part(file: &[u8], from: usize, size: usize, at: usize, out: &mut [u8]) -
     requires { (from + size ≤ length file.now) × (at + size ≤ length out.old) }
     ensures { Put out.old at (slice file.now from size) out.new result }
 {
-    let to = from + size;
-    words::copy(out, at, &file[from..to]);
+    words::copy(out, at, &file[from..from + size]);
     at + size
 }
 
@@ -40,14 +38,13 @@ fn put_neighbours(
     ensures { Put out.old at (new_n which file.now d b) out.new result }
 {
     let mut next = at;
-    let mut i: usize = 0;
-    'entries: while i < b.neighbours {
+    'entries: for i in 0..b.neighbours {
         let entry = words::u32_at(file, b.n + NUMBER_SIZE * i);
-        i += 1;
-        if unstitched::keeps(which, d, entry) {
-            words::put_u32(out, next, unstitched::written_as(which, d, entry));
-            next += NUMBER_SIZE;
+        if !unstitched::keeps(which, d, entry) {
+            continue;
         }
+        words::put_u32(out, next, unstitched::written_as(which, d, entry));
+        next += NUMBER_SIZE;
     }
     next
 }
@@ -108,11 +105,9 @@ fn put_vertices(
 {
     let mut next = copy_part(file, b.v, DECK_OFFSET_SIZE, at, out);
     let mut start: usize = 0;
-    let mut i: usize = 0;
-    'vertices: while i < b.vertices {
+    'vertices: for i in 0..b.vertices {
         start = put_vertex(file, which, d, b, i, start, next, out);
         next += VERTEX_SIZE;
-        i += 1;
     }
     next
 }
@@ -146,16 +141,14 @@ fn put_decks(file: &[u8], which: Stitches, out: &mut [u8])
 {
     let decks = decks::deck_count(file);
     let mut at = HEADER_SIZE + DECK_ROW_SIZE * decks;
-    let mut d: usize = 0;
-    'decks: while d < decks {
+    'decks: for d in 0..decks {
         at = put_deck(file, which, d, at, out);
-        d += 1;
     }
 }
 
 // How many bytes N of deck d loses.
 fn lost_in_deck(file: &[u8], which: Stitches, d: usize) -> usize
-    requires { (first_no file.now ≡ Passed) × (d < decks_in file.now) }
+    requires { (first_no file.now ≡ Ok tt) × (d < decks_in file.now) }
     ensures { LostInDeck which file.now d result }
 {
     let b = decks::deck_blocks(file, d);
@@ -164,7 +157,7 @@ fn lost_in_deck(file: &[u8], which: Stitches, d: usize) -> usize
 
 // How many bytes block j of the file loses. N is the second of a deck's five blocks.
 fn lost_in_block(file: &[u8], which: Stitches, j: usize) -> usize
-    requires { (first_no file.now ≡ Passed) × (j < blocks_per_deck * decks_in file.now) }
+    requires { (first_no file.now ≡ Ok tt) × (j < blocks_per_deck * decks_in file.now) }
     ensures { LostInBlock which file.now j result }
 {
     if j % BLOCKS_PER_DECK != 1 {
@@ -180,28 +173,24 @@ fn put_table(file: &[u8], which: Stitches, out: &mut [u8])
 {
     let blocks = BLOCKS_PER_DECK * decks::deck_count(file);
     let mut lost: usize = 0;
-    let mut j: usize = 0;
-    'pairs: while j < blocks {
+    'pairs: for j in 0..blocks {
         let block = ship::extent_at(file, HEADER_SIZE, PAIR_SIZE, j);
         let here = lost_in_block(file, which, j);
         let words = [(block.start - lost) as u32, (block.count - here) as u32];
         words::put_words(out, HEADER_SIZE + PAIR_SIZE * j, &words);
         lost += here;
-        j += 1;
     }
 }
 
 // How long the new file is, which question 20 asks before a byte is written.
 fn new_size(file: &[u8], which: Stitches) -> usize
-    requires { first_no file.now ≡ Passed }
+    requires { first_no file.now ≡ Ok tt }
     ensures { result ≡ length (new_file which file.now) }
 {
     let decks = decks::deck_count(file);
     let mut lost: usize = 0;
-    let mut d: usize = 0;
-    'decks: while d < decks {
+    'decks: for d in 0..decks {
         lost += lost_in_deck(file, which, d);
-        d += 1;
     }
     file.len() - lost
 }
@@ -220,16 +209,13 @@ fn put_file(file: &[u8], which: Stitches, out: &mut [u8])
 fn remove(file: &[u8], which: Stitches, out: &mut [u8]) -> Answer
     ensures { RemovalReplied which file.now out.old out.new result }
 {
-    match ship::first_no(file) {
-        Check::No(number) => return Answer::Refused(number),
-        Check::Passed => {}
-    }
+    ship::first_no(file)?;
     let size = new_size(file, which);
     if out.len() < size {
-        return Answer::Refused(20);
+        return Err(Refusal::NoRoom);
     }
     put_file(file, which, out);
-    Answer::Wrote(size)
+    Ok(size)
 }
 
 // Entries of other decks are dropped in every deck, and a deck's own become plain numbers.

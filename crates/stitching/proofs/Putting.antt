@@ -2,29 +2,18 @@
 use Prim.Native.Nat.{ℕ, ◌+◌, ◌*◌, ◌/◌, ◌^◌, ◌≤◌, ◌<◌}
 use native.Mathlib.Omega.{arith}
 use mathlib.Core.Path.{◌≡◌, refl, sym, ap, ◌∙◌}
-use mathlib.Core.Bool.{true, false}
 use mathlib.Core.List.{List, [], ◌∷◌, ◌++◌}
 use mir.Syntax.{w64}
 use mir.Val.{Fits}
 use lib.ListN.{length, length-append}
-use lib.Ieee.{binary32, to_bits, eq}
+use lib.Ieee.{binary32, to_bits}
 use Rattle.geometry.specs.declared.Vec2.{Vec2}
 use Rattle.geometry.proofs.Bounds.{not_nan}
 use Rattle.words.specs.Bytes.{bytes4, joined, words_of, splice}
 use Rattle.words.proofs.Splice.{length_splice, splice_splice, splice_nil}
 use Rattle.words.proofs.Writing.{length_joined, joined_append}
-use Rattle.stitching.specs.Points.{StitchPoint, same_point, stitch_size, stitch_bytes}
+use Rattle.stitching.specs.Points.{StitchPoint, stitch_size, stitch_bytes}
 use Rattle.stitching.specs.Walk.{stitch_point, largest, counted, StitchesPut}
-
--- ---- `same_point`
-module _ (p q : Vec2) where
-  pub same_other : eq p.x q.x ≡ false → eq p.x q.x ≡ same_point p q
-  same_other e = e ∙ rw e
-
-  pub same_both : eq p.x q.x ≡ true → eq p.y q.y ≡ same_point p q
-  same_both e = rw e
-
-pub ruleset sames = (same_other, same_both)
 
 -- ---- lengths
 pub length_stitch : (p : StitchPoint) → length (stitch_bytes p) ≡ stitch_size

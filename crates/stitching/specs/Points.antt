@@ -5,8 +5,7 @@ use Rattle.std.specs.Float.Ieee.{eq, to_bits}
 use Rattle.geometry.specs.declared.Vec2.{Vec2}
 use Rattle.words.specs.Bytes.{words_of}
 use Rattle.words.specs.Rows.{collect, collect_all}
-use Rattle.answers.specs.declared.Answer.{Answer}
-use Rattle.answers.specs.Replies.{Reply, reply_of, Replied, RepliedCode}
+use Rattle.answers.specs.Replies.{Reply, reply_of, Replied, RepliedCode, Answer}
 use Rattle.ship.specs.Model.{Ship, point_of, deck_of}
 use Rattle.ship.specs.Decode.{decode}
 use Rattle.ship.specs.Questions.{first_no}

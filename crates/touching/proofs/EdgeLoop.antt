@@ -1,48 +1,19 @@
--- The loops of `touches`: over the entries of a vertex's list, and over a polygon's edges, each vertex's list being looked at once.
+-- The loop of `touches` over a polygon's edges, each vertex's list being looked at once.
 use Prim.Native.Nat.{ℕ, ◌+◌, ◌<◌, ◌≤◌}
 use native.Mathlib.Omega.{arith}
 use mathlib.Core.Path.{◌≡◌, refl, sym, ◌∙◌}
 use mathlib.Core.Bool.{Bool, true, false, ◌&&◌}
 use mathlib.Core.List.{List}
 use lib.Dec.{eqb}
-use lib.ListN.{length, get_or}
+use lib.ListN.{length}
 use borrow.Author.Tests.{eq-eqb, ne_eqb}
-use Rattle.words.specs.Rows.{some, has}
+use Rattle.words.specs.Rows.{some}
 use Rattle.words.proofs.TableRows.{Sought, sought_all, sought_none, sought_more, sought_stop}
-use Rattle.ship.specs.declared.Blocks.{Blocks}
-use Rattle.ship.specs.Layout.{decks_in, blocks_at}
-use Rattle.ship.specs.Decode.{decode, deck_at}
-use Rattle.ship.specs.Model.{Deck, neighbours_of, corners_of}
+use Rattle.ship.specs.Layout.{decks_in}
+use Rattle.ship.specs.Decode.{decode}
+use Rattle.ship.specs.Model.{Deck, corners_of, deck_of}
 use Rattle.ship.specs.Packed.{packed_deck, packed_polygon}
-use Rattle.ship.specs.Questions.{DeckOfPassed}
-use Rattle.ship.proofs.ModelFacts.{deck_of_lem}
 use Rattle.touching.specs.Touching.{corner_has, edge_end, touches_on, touches, TouchReady}
-
--- ---- a list
--- the entries below j are others
-pub record Looked (l : List ℕ) (x j : ℕ) : Type 0 where
-  pub sought : Sought (λ i. eqb (get_or l i 0) x) (length l) j
-
-pub looked_all : {l : List ℕ} {x : ℕ} → Looked l x 0
-looked_all = record { sought = sought_all }
-
-module _ {l : List ℕ} {x j n : ℕ} (t : Looked l x j) (long : n ≡ length l) where
-  pub looked_none : n ≤ j → false ≡ has l x
-  unfolding has
-  looked_none h = sought_none t.sought (rw long at h)
-
-  module _ (h : j < n) {e : ℕ} (entry : e ≡ get_or l j 0) where
-    pub looked_more : (e ≡ x → ⊥) → Looked l x (j + 1)
-    looked_more d = record { sought = sought_more t.sought (rw long at h) refl (rw (sym entry) (ne_eqb e x d)) }
-
-    pub looked_stop : e ≡ x → true ≡ has l x
-    unfolding has
-    looked_stop f = sought_stop t.sought (rw long at h) refl (rw (sym entry) (eq-eqb e x f))
-
-pub ruleset looking = (looked_all, looked_none, looked_more, looked_stop)
-
-pub corner_looked : (deck : Deck) (k b j v : ℕ) {r : Bool} → v ≡ get_or (corners_of deck k) j 0 → r ≡ has (neighbours_of deck v) b → r ≡ corner_has deck k b j
-corner_looked deck k b j v e f = f ∙ rw e
 
 -- ---- the edges
 module _ (deck : Deck) (k b n : ℕ) where
@@ -109,8 +80,8 @@ module _ {deck : Deck} {k b n : ℕ} {first start : Bool} {j : ℕ} (t : Edged d
       go false e = let q = t.next in let s = t.small in sought_none (sought_more t.sought (omega arith) refl e) (omega arith)
 
   module _ (h : n ≤ j) (long : n ≡ length (corners_of deck k)) where
-    pub edged_none : start ≡ false → false ≡ touches_on deck k b
-    edged_none e = let r = edged_last h long in rw e at r
+    pub edged_none : start ≡ false → start ≡ touches_on deck k b
+    edged_none e = e ∙ (let r = edged_last h long in rw e at r)
 
     pub edged_first : start ≡ true → first ≡ touches_on deck k b
     edged_first e = let r = edged_last h long in rw e at r
@@ -122,15 +93,12 @@ module _ {file : List ℕ} {a : ℕ} (t : TouchReady file a) where
   pub touch_deck : packed_deck a < decks_in file
   touch_deck = t.there.deck
 
-  pub touch_blocks : {at : Blocks} {d : ℕ} → d ≡ packed_deck a → at ≡ blocks_at file d → DeckOfPassed file at
-  touch_blocks e f = record { number = packed_deck a; there = t.there.deck; is = f ∙ rw e; passed = t.passed }
+  module _ {deck : Deck} {d : ℕ} (e : d ≡ packed_deck a) (f : deck ≡ deck_of (decode file) d) {k : ℕ} (g : k ≡ packed_polygon a) where
+    pub touch_polygon : k < length deck.polygons
+    touch_polygon = rw (f, e, g) t.there.polygon
 
-  pub touch_polygon : {at : Blocks} {d : ℕ} → d ≡ packed_deck a → at ≡ blocks_at file d → {k : ℕ} → k ≡ packed_polygon a → k < at.polygons
-  touch_polygon e f g = rw (f, e, g) t.there.polygon
+    pub touch_is : (b : ℕ) {r : Bool} → r ≡ touches_on deck k b → r ≡ touches (decode file) a b
+    unfolding touches
+    touch_is b s = s ∙ rw (f, e, g)
 
-  pub touch_is : {at : Blocks} {d : ℕ} → d ≡ packed_deck a → at ≡ blocks_at file d → {k : ℕ} → k ≡ packed_polygon a → (b : ℕ) {r : Bool}
-      → r ≡ touches_on (deck_at file at) k b → r ≡ touches (decode file) a b
-  unfolding touches
-  touch_is e f g b s = s ∙ rw (f, e, g, deck_of_lem file (packed_deck a) t.there.deck)
-
-pub ruleset touching = (touch_deck, touch_blocks, touch_polygon, touch_is)
+pub ruleset touching = (touch_deck, touch_polygon, touch_is)

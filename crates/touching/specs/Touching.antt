@@ -1,8 +1,8 @@
 -- Document 01, section 8, `candidate_polygons`: 'a reaches b if an edge of a has packed b in both ends' N lists'.
-use Rattle.std.specs.Prelude.{ℕ, ◌+◌, ◌<◌, ◌≡◌, Bool, ◌&&◌, cond, List, eqb, length, get_or}
+use Rattle.std.specs.Prelude.{ℕ, ◌+◌, ◌<◌, ◌≡◌, Bool, ◌&&◌, cond, List, eqb, length, get_or, Ok}
 use Rattle.words.specs.Rows.{some, has}
-use Rattle.answers.specs.declared.Check.TheVariants.{Passed}
-use Rattle.ship.specs.Layout.{decks_in, blocks_at}
+use Rattle.ship.specs.Layout.{decks_in}
+use Rattle.ship.specs.Decode.{decode}
 use Rattle.ship.specs.Model.{Deck, Ship, neighbours_of, corners_of, deck_of}
 use Rattle.ship.specs.Packed.{packed_deck, packed_polygon}
 use Rattle.ship.specs.Questions.{first_no}
@@ -27,9 +27,9 @@ touches ship a b = touches_on (deck_of ship (packed_deck a)) (packed_polygon a) 
 -- a packed number of a polygon that is there
 pub record PolygonThere (file : List ℕ) (a : ℕ) : Type 0 where
   pub deck : packed_deck a < decks_in file
-  pub polygon : packed_polygon a < (blocks_at file (packed_deck a)).polygons
+  pub polygon : packed_polygon a < length (deck_of (decode file) (packed_deck a)).polygons
 
 -- what `touches` needs
 pub record TouchReady (file : List ℕ) (a : ℕ) : Type 0 where
-  pub passed : first_no file ≡ Passed
+  pub passed : first_no file ≡ Ok tt
   pub there : PolygonThere file a

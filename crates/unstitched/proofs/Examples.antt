@@ -5,8 +5,8 @@ use mathlib.Core.List.{List, [], ◌∷◌}
 use lib.Ieee.{of_bits, le}
 use Rattle.words.specs.Bytes.{all_ones, u32_at, bytes4, joined, words_of}
 use Rattle.words.specs.Rows.{rows, every, collect}
-use Rattle.answers.specs.declared.Check.TheVariants.{Passed}
 use Rattle.answers.specs.Checks.{check_each}
+use Rattle.std.specs.Prelude.{Ok}
 use Rattle.ship.specs.Layout.{blocks_at}
 use Rattle.ship.specs.Floats.{size_at_most, reach_allowed}
 use Rattle.ship.specs.Questions.{end_to_end, question1, question2, question3, question4, question5, question6, question7, question8, question9, question10, question11, question12, question13, header_check, blocks_check, deck_check, first_no}
@@ -53,7 +53,7 @@ to_lowest = words_of (
     0 ∷ 0 ∷ 0x3F800000 ∷ 0x40000000 ∷ 0 ∷ 2 ∷ 0 ∷ all_ones ∷ 0 ∷ 1 ∷ 0 ∷
     0 ∷ 0 ∷ 0x3F800000 ∷ 0x40000000 ∷ 0 ∷ 2 ∷ 0x40400000 ∷ 0x40000000 ∷ 2 ∷ 1 ∷ all_ones ∷ 0x01000002 ∷ 0x01000000 ∷ 0 ∷ 2 ∷ 1 ∷ 0 ∷ 0x40800000 ∷ 0x40A00000 ∷ [])
 
-passed : first_no stitched ≡ Passed
+passed : first_no stitched ≡ Ok tt
 unfolding stitched joined bytes4 check_each end_to_end every question1 question2 question3 question4 question5 question6 question7 question8 question9 question10 question11 question12 question13 header_check blocks_check deck_check first_no u32_at blocks_at size_at_most reach_allowed of_bits le
 passed = refl
 

@@ -11,7 +11,6 @@ use Rattle.words.specs.Bytes.{u32_at, words_of, slice}
 use Rattle.words.specs.Rows.{collect_all, sum_of, sum_all}
 use Rattle.words.proofs.Collecting.{length_collect, sum_same}
 use Rattle.words.proofs.Numbers.{length_words}
-use Rattle.answers.specs.declared.Check.TheVariants.{Passed}
 use Rattle.ship.specs.declared.Blocks.{Blocks}
 use Rattle.ship.specs.declared.DeckRow.{DeckRow}
 use Rattle.ship.specs.Layout.{number_size, header_size, pair_size, blocks_per_deck, deck_row_size, deck_offset_size, vertex_size, decks_in, blocks_position, block_at, row_position, deck_row, blocks_of, blocks_at}
@@ -23,6 +22,7 @@ use Rattle.unstitched.proofs.Pieces.{Piece, piece_whole, piece_left, piece_right
 use Rattle.unstitched.proofs.Pairs.{total, total_collect, pairs_length, pairs_chain, pairs_rows}
 use Rattle.unstitched.proofs.OldPlaces.{laid}
 use Rattle.unstitched.proofs.NewDeck.{kept_entries, moved_to, blocks_length}
+use Rattle.std.specs.Prelude.{Ok}
 
 -- one summand more at the end
 sum_last : (f : ℕ → ℕ) (i n : ℕ) → sum_all f i (n + 1) ≡ sum_all f i n + f (i + n)
@@ -108,7 +108,7 @@ module _ (which : Stitches) (s : List ℕ) where
   unfolding new_table
   table_length = omega (arith, pairs_words (blocks_position s) (collect_all lengths_in 0 (decks_in s)), all_lengths)
 
-  module _ (passed : first_no s ≡ Passed) where
+  module _ (passed : first_no s ≡ Ok tt) where
     deck_length : (d : ℕ) → d < decks_in s → length (blocks_in d) ≡ total (lengths_in d)
     deck_length d h = blocks_length which s d (blocks_at s d) (laid s passed d h)
 

@@ -8,7 +8,6 @@ use lib.Dec.{eqb, leb}
 use lib.ListN.{length}
 use borrow.Author.Tests.{eqb-true, leb-true}
 use Rattle.words.proofs.TableRows.{both}
-use Rattle.answers.specs.declared.Check.TheVariants.{Passed}
 use Rattle.ship.specs.declared.Blocks.{Blocks}
 use Rattle.ship.specs.declared.DeckRow.{DeckRow}
 use Rattle.ship.specs.declared.Extent.{Extent}
@@ -18,12 +17,13 @@ use Rattle.ship.proofs.Passed.{deck_all_yes, passed_header, passed_deck}
 use Rattle.ship.proofs.Inside.{blocks_chain}
 use Rattle.ship.proofs.Facts.{blocks_inside}
 use Rattle.unstitched.proofs.Chains.{start_of, start_here, start_end, start_first, start_next}
+use Rattle.std.specs.Prelude.{Ok}
 
 -- ---- where block j begins; past the last one, the file's end
 abbrev pub block_start : List ℕ → ℕ → ℕ
 block_start s j = start_of (block_at s) (length s) (blocks_per_deck * decks_in s) j
 
-module _ (s : List ℕ) (passed : first_no s ≡ Passed) where
+module _ (s : List ℕ) (passed : first_no s ≡ Ok tt) where
   pub block_first : block_start s 0 ≡ blocks_position s
   block_first = start_first (block_at s) (length s) (blocks_position s) (blocks_per_deck * decks_in s) (blocks_chain s (passed_header s passed))
 
@@ -76,7 +76,7 @@ pub record Laid (s : List ℕ) (b : Blocks) : Type 0 where
   pub c_next : b.c ≡ b.p + pair_size * b.polygons
   pub h_next : b.h ≡ b.c + number_size * b.corners
 
-module _ (s : List ℕ) (passed : first_no s ≡ Passed) (d : ℕ) (there : d < decks_in s) where
+module _ (s : List ℕ) (passed : first_no s ≡ Ok tt) (d : ℕ) (there : d < decks_in s) where
   whole : question7 s d ≡ true
   whole = (deck_all_yes s d (passed_deck s passed d there)).0
 

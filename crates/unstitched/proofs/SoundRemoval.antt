@@ -7,8 +7,8 @@ use lib.ListN.{length, get_or}
 use borrow.Author.Tests.{le-leb}
 use Rattle.words.specs.Rows.{rows}
 use Rattle.words.proofs.TableRows.{length_rows, rows_same}
-use Rattle.answers.specs.declared.Check.TheVariants.{Passed}
 use Rattle.answers.proofs.Asking.{passed_each}
+use Rattle.std.specs.Prelude.{Ok}
 use Rattle.ship.specs.declared.Blocks.{Blocks}
 use Rattle.ship.specs.Layout.{header_size, decks_position, reach_position, steps_position, decks_in, blocks_position, blocks_at}
 use Rattle.ship.specs.Model.{Vertex, Deck, Ship, no_deck, deck_of}
@@ -25,16 +25,16 @@ use Rattle.unstitched.proofs.NewDeck.{moved_to, anew}
 use Rattle.unstitched.proofs.DeckAnew.{blocks_anew, deck_anew}
 use Rattle.unstitched.proofs.NewPlaces.{place, deck_piece, file_length, header_read, chain, blocks_read, whole_read}
 
-blocks_passed : (s : List ℕ) (b : Blocks) → BlocksYes s b → blocks_check s b ≡ Passed
+blocks_passed : (s : List ℕ) (b : Blocks) → BlocksYes s b → blocks_check s b ≡ Ok tt
 unfolding blocks_check
 blocks_passed s b y = rw (y.yes8, y.yes9, y.yes10, y.yes11, y.yes12, y.yes13)
 
 -- ---- one removal
-module _ (which : Stitches) (s : List ℕ) (passed : first_no s ≡ Passed) where
+module _ (which : Stitches) (s : List ℕ) (passed : first_no s ≡ Ok tt) where
   decks_read : decks_in (new_file which s) ≡ decks_in s
   decks_read = header_read which s passed decks_position (omega arith)
 
-  new_header : header_check (new_file which s) ≡ Passed
+  new_header : header_check (new_file which s) ≡ Ok tt
   unfolding question1 question2 question3 question4 question5 question6
   new_header =
       let y = header_all_yes s (passed_header s passed) in
@@ -52,7 +52,7 @@ module _ (which : Stitches) (s : List ℕ) (passed : first_no s ≡ Passed) wher
     old_yes : BlocksYes s (blocks_at s d)
     old_yes = (deck_all_yes s d (passed_deck s passed d there)).1
 
-    new_deck : deck_check (new_file which s) d ≡ Passed
+    new_deck : deck_check (new_file which s) d ≡ Ok tt
     unfolding deck_check
     new_deck =
         let b = blocks_at s d in
@@ -66,7 +66,7 @@ module _ (which : Stitches) (s : List ℕ) (passed : first_no s ≡ Passed) wher
         let r = anew which s d b (laid s passed d there) (deck_piece which s passed d there) in
         rw (blocks_read which s passed d there) (deck_anew which s d b (new_file which s) (place which s d) r old_yes)
 
-  passes : first_no (new_file which s) ≡ Passed
+  passes : first_no (new_file which s) ≡ Ok tt
   unfolding first_no
   passes =
       let e = decks_read in

@@ -1,10 +1,8 @@
 -- The file that a removal writes: the old one's bytes, with fewer entries in N and all that counts them.
-use Rattle.std.specs.Prelude.{ℕ, ◌+◌, ◌*◌, ◌≡◌, List, [], ◌∷◌, ◌++◌, ℤ, length}
+use Rattle.std.specs.Prelude.{ℕ, ◌+◌, ◌*◌, ◌≡◌, List, [], ◌∷◌, ◌++◌, ℤ, length, Ok}
 use Rattle.words.specs.Bytes.{slice, words_of}
 use Rattle.words.specs.Rows.{rows, collect_all}
-use Rattle.answers.specs.declared.Answer.{Answer}
-use Rattle.answers.specs.declared.Check.TheVariants.{Passed}
-use Rattle.answers.specs.Replies.{Reply, Replied, RepliedCode}
+use Rattle.answers.specs.Replies.{Reply, Replied, RepliedCode, Answer}
 use Rattle.ship.specs.declared.Blocks.{Blocks}
 use Rattle.ship.specs.Layout.{number_size, header_size, pair_size, deck_offset_size, vertex_size, list_in_vertex, decks_in, blocks_position, blocks_at, vertex_position, neighbour_extent, neighbour_entry}
 use Rattle.ship.specs.Decode.{decode}
@@ -86,9 +84,9 @@ RemovalCode which file out out' r = RepliedCode (removal_reply which file) out o
 
 -- What is written is a ship file again, its model is the old one with its lists filtered, and a second removal takes more away.
 pub record NewFileSound (which : Stitches) (file : List ℕ) : Type 0 where
-  pub passes : first_no (new_file which file) ≡ Passed
+  pub passes : first_no (new_file which file) ≡ Ok tt
   pub model : decode (new_file which file) ≡ removed which (decode file)
   pub again : decode (new_file which (new_file which file)) ≡ removed_twice which (decode file)
 
 abbrev pub RemovalSound : Stitches → List ℕ → Type 0
-RemovalSound which file = first_no file ≡ Passed → NewFileSound which file
+RemovalSound which file = first_no file ≡ Ok tt → NewFileSound which file

@@ -8,9 +8,10 @@ ghost use Rattle.unstitched.specs.Removal.{plain_in, keeps, written_as};
 ghost use Rattle.unstitched.specs.NewFile.{kept_from};
 
 use ship::{Blocks, NUMBER_SIZE};
+use words::ALL_ONES;
 
-// Which stitches are removed: those between all decks, or those to one.
-#[derive(Clone, Copy)]
+// Which stitches are removed: those between all decks, or those to one. No Option: None would read as none of them.
+#[derive(Clone, Copy, Debug, PartialEq, Eq)]
 pub enum Stitches {
     All,
     ToLayer(u8),
@@ -27,32 +28,27 @@ fn plain_in(which: Stitches, d: usize) -> bool
 }
 
 // Whether an entry stays in a list of deck d.
+#[tactic(auto, unfolding(crate::specs::Removal::keeps))]
 pub fn keeps(which: Stitches, d: usize, entry: u32) -> bool
     ensures { result ≡ keeps which d entry }
 {
-    if entry == 0xFFFF_FFFF {
+    if entry == ALL_ONES {
         return true;
     }
     let deck = decks::packed_deck(entry);
     match which {
         Stitches::All => deck == d,
-        Stitches::ToLayer(t) => {
-            if d == t as usize {
-                return deck == d;
-            }
-            deck != t as usize
-        }
+        Stitches::ToLayer(t) if d == t as usize => deck == d,
+        Stitches::ToLayer(t) => deck != t as usize,
     }
 }
 
 // What is written for an entry that stays.
+#[tactic(auto, unfolding(crate::specs::Removal::written_as))]
 pub fn written_as(which: Stitches, d: usize, kept: u32) -> u32
     ensures { result ≡ written_as which d kept }
 {
-    if kept == 0xFFFF_FFFF {
-        return kept;
-    }
-    if !plain_in(which, d) {
+    if kept == ALL_ONES || !plain_in(which, d) {
         return kept;
     }
     decks::packed_polygon(kept) as u32
@@ -63,15 +59,7 @@ pub fn kept_in(file: &[u8], which: Stitches, d: usize, b: Blocks, first: usize, 
     requires { b.n + number_size * (first + n) ≤ length file.now }
     ensures { (result ≡ length (kept_from which file.now d b first n)) × (result ≤ n) }
 {
-    let end = first + n;
-    let mut kept: usize = 0;
-    let mut i = first;
-    'entries: while i < end {
-        let entry = words::u32_at(file, b.n + NUMBER_SIZE * i);
-        i += 1;
-        if keeps(which, d, entry) {
-            kept += 1;
-        }
-    }
-    kept
+    (first..first + n)
+        .filter(|i| keeps(which, d, words::u32_at(file, b.n + NUMBER_SIZE * *i)))
+        .count()
 }

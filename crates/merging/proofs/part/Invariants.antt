@@ -1,10 +1,6 @@
 -- `part` meets its contract. The loop's invariant: the numbers from i on are parted.
-use Prim.Native.Nat.{◌-◌}
 use Rattle.merging.proofs.FloodLoop.{Parting}
 use Rattle.merging.proofs.part.Given as goal
 
 abbrev pub invariant-numbers : goal.invariant-numbers
 invariant-numbers l = Parting l.file l.initial.list l.list l.a l.t l.n l.i l.w
-
-abbrev pub decreases-numbers : goal.decreases-numbers
-decreases-numbers l = l.i - l.t

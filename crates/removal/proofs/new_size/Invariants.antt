@@ -1,10 +1,6 @@
 -- `new_size` meets its contract. The loop's invariant: the decks before d lost `lost` bytes.
-use Prim.Native.Nat.{◌-◌}
 use Rattle.removal.proofs.Losses.{Shrunk}
 use Rattle.removal.proofs.new_size.Given as goal
 
 abbrev pub invariant-decks : goal.invariant-decks
 invariant-decks l = Shrunk l.which l.file l.lost l.d
-
-abbrev pub decreases-decks : goal.decreases-decks
-decreases-decks l = l.decks - l.d

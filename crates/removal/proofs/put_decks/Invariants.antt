@@ -1,10 +1,6 @@
 -- `put_decks` meets its contract. The loop's invariant: the decks before d are put.
-use Prim.Native.Nat.{◌-◌}
 use Rattle.removal.proofs.Decks.{DecksPut}
 use Rattle.removal.proofs.put_decks.Given as goal
 
 abbrev pub invariant-decks : goal.invariant-decks
 invariant-decks l = DecksPut l.which l.file l.initial.out l.out l.at l.d
-
-abbrev pub decreases-decks : goal.decreases-decks
-decreases-decks l = l.decks - l.d

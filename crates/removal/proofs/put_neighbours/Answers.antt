@@ -8,8 +8,8 @@ entries-init c = search (neighbours, rules)
 pub put_u32-requires : goal.put_u32-requires
 put_u32-requires c = search (neighbours, rules)
 
-pub entries-preserved-then-keeps : goal.entries-preserved-then-keeps
-entries-preserved-then-keeps c = search (neighbours, rules)
+pub entries-preserved-then-not-keeps : goal.entries-preserved-then-not-keeps
+entries-preserved-then-not-keeps c = search (neighbours, rules)
 
 pub entries-preserved : goal.entries-preserved
 entries-preserved c = search (neighbours, rules)

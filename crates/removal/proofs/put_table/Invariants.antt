@@ -1,10 +1,6 @@
 -- `put_table` meets its contract. The loop's invariant: the pairs before j are put, and the blocks before j lost `lost` bytes.
-use Prim.Native.Nat.{◌-◌}
 use Rattle.removal.proofs.Table.{TablePut}
 use Rattle.removal.proofs.put_table.Given as goal
 
 abbrev pub invariant-pairs : goal.invariant-pairs
 invariant-pairs l = TablePut l.which l.file l.initial.out l.out l.lost l.j
-
-abbrev pub decreases-pairs : goal.decreases-pairs
-decreases-pairs l = l.blocks - l.j

@@ -1,10 +1,6 @@
 -- `put_vertices` meets its contract. The loop's invariant: the vertices before i are put, and list i begins at `start`.
-use Prim.Native.Nat.{◌-◌}
 use Rattle.removal.proofs.Vertices.{VerticesPut}
 use Rattle.removal.proofs.put_vertices.Given as goal
 
 abbrev pub invariant-vertices : goal.invariant-vertices
 invariant-vertices l = VerticesPut l.which l.file l.d l.b l.initial.out l.initial.next l.out l.next l.start l.i
-
-abbrev pub decreases-vertices : goal.decreases-vertices
-decreases-vertices l = l.b.vertices - l.i

@@ -1,4 +1,4 @@
--- `put_all` meets its contract. The loop's invariant: what the decks from e on count and write is left.
+-- `put_all` meets its contract. The loop's invariant: what the decks from a on count and write is left.
 use Prim.Native.Nat.{◌-◌}
 use Rattle.words.specs.Rows.{collect_all}
 use Rattle.ship.specs.Decode.{decode}
@@ -7,7 +7,4 @@ use Rattle.stitching.proofs.Putting.{Putting}
 use Rattle.stitching.proofs.put_all.Given as goal
 
 abbrev pub invariant-decks : goal.invariant-decks
-invariant-decks l = Putting (stitch_points (decode l.file)) 0 l.initial.out (collect_all (stitches_from (decode l.file)) l.e (l.decks - l.e)) l.count l.out
-
-abbrev pub decreases-decks : goal.decreases-decks
-decreases-decks l = l.decks - l.e
+invariant-decks l = Putting (stitch_points (decode l.file)) 0 l.initial.out (collect_all (stitches_from (decode l.file)) l.a (l.decks - l.a)) l.count l.out

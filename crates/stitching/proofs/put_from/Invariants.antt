@@ -1,4 +1,4 @@
--- `put_from` meets its contract. The loop's invariant: what the decks from e on count and write is left.
+-- `put_from` meets its contract. The loop's invariant: what the decks from b on count and write is left.
 use Prim.Native.Nat.{◌-◌}
 use Rattle.words.specs.Rows.{collect_all}
 use Rattle.ship.specs.Decode.{decode}
@@ -7,7 +7,4 @@ use Rattle.stitching.proofs.Putting.{Putting}
 use Rattle.stitching.proofs.put_from.Given as goal
 
 abbrev pub invariant-decks : goal.invariant-decks
-invariant-decks l = Putting (stitches_from (decode l.file) l.a) l.n l.initial.out (collect_all (stitches_between (decode l.file) l.a) l.e (l.decks - l.e)) l.count l.out
-
-abbrev pub decreases-decks : goal.decreases-decks
-decreases-decks l = l.decks - l.e
+invariant-decks l = Putting (stitches_from (decode l.file) l.a) l.n l.initial.out (collect_all (stitches_between (decode l.file) l.a) l.b (l.decks - l.b)) l.count l.out

@@ -1,12 +1,20 @@
-use borrow.Author.Rules.{rules}
-use Rattle.unstitched.proofs.Entries.{counting}
+-- `kept_in` meets its contract.
+use Rattle.std.proofs.Common.{rules, arith, ◌+◌, ◌≡◌, ◌∙◌, sym, length}
+use Rattle.std.specs.Prelude.{filter}
+use Rattle.std.specs.List.{range_with_len}
+use borrow.Author.Tests.{tests}
+use Rattle.std.proofs.lemmas.Iterator.{YieldsList-from_range}
+use Rattle.std.proofs.lemmas.Iterator.Consumers.{YieldsList-from_filter, count_from_yields_List}
+use Rattle.unstitched.proofs.Entries.{kept_at, kept_count, kept_few}
 use Rattle.unstitched.proofs.kept_in.Goals as goal
 
-pub entries-preserved-then-keeps : goal.entries-preserved-then-keeps
-entries-preserved-then-keeps c = search (counting, rules)
-
-pub entries-preserved : goal.entries-preserved
-entries-preserved c = search (counting, rules)
-
 pub returns : goal.returns
-returns c = search (counting, rules)
+returns c =
+    let first = c.args.first in
+    let n = c.args.n in
+    let test = kept_at c.args.which c.args.file.now c.args.d c.args.b in
+    let counted : c.count.result ≡ length (filter test (range_with_len first n)) =
+    count_from_yields_List _ _ c.count.ensures.ran
+    (YieldsList-from_filter _ test (YieldsList-from_range first (first + n) n (search rules) (omega arith)) c.filter.ensures.closure (λ x r q k. search (rules, tests))) in
+    let same = counted ∙ sym (kept_count c.args.which c.args.file.now c.args.d c.args.b n first) in
+    (same, omega (arith, same, kept_few c.args.which c.args.file.now c.args.d c.args.b n first))
