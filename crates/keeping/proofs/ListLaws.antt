@@ -1,36 +1,12 @@
 -- The lists at the front of an array: what is read of one that was written, of the others, and of the numbers behind them.
-use Prim.Native.Nat.{ℕ, ◌+◌, ◌-◌, ◌*◌, ◌≤◌, ◌<◌}
+use Prim.Native.Nat.{ℕ, ◌+◌, ◌*◌, ◌≤◌, ◌<◌}
 use native.Mathlib.Omega.{arith}
 use mathlib.Core.Path.{◌≡◌, refl, ◌∙◌}
 use mathlib.Core.List.{List}
 use lib.ListN.{length, get_or, set, length-set}
 use lib.Seq.{get_or-set_same, get_or-set_other}
-use borrow.Author.Tests.{lt-ltb, le-ltb}
 use Rattle.keeping.specs.declared.Kept.{Kept}
-use Rattle.keeping.specs.Kept.{sought_at}
 use Rattle.keeping.specs.Lists.{list_size, lists_size, list_at, with_list, ListsRoom}
-
--- ---- `list_of`, `put_list`
-pub list_made : (array : List ℕ) (d : ℕ) {x y z : ℕ} → x ≡ get_or array (list_size * d) 0 → y ≡ get_or array (list_size * d + 1) 0 → z ≡ get_or array (list_size * d + 2) 0
-    → record { start = x; count = y; rest = z } ≡ list_at array d
-list_made array d ex ey ez = rw (ex, ey, ez)
-
-pub list_put : (array : List ℕ) (d : ℕ) (kept : Kept) {a b c : List ℕ} → a ≡ set array (list_size * d) kept.start → b ≡ set a (list_size * d + 1) kept.count
-    → c ≡ set b (list_size * d + 2) kept.rest → c ≡ with_list array d kept
-unfolding with_list
-list_put array d kept ea eb ec = ec ∙ rw (eb, ea)
-
-pub ruleset puts = (length-set, list_made, list_put)
-
--- ---- `sought`
-module _ (array : List ℕ) (kept : Kept) (j : ℕ) where
-  pub sought_number : {x : ℕ} → j < kept.count → x ≡ get_or array (kept.start + j) 0 → x ≡ sought_at array kept j
-  sought_number h e = rw (lt-ltb j kept.count h) e
-
-  pub sought_rest : kept.count ≤ j → kept.rest + (j - kept.count) ≡ sought_at array kept j
-  sought_rest h = rw (le-ltb j kept.count h)
-
-pub ruleset sequence = (sought_number, sought_rest)
 
 -- ---- what is read of an array in which deck d's list was written
 module _ (array : List ℕ) (d : ℕ) (kept : Kept) where

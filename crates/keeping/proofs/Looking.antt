@@ -8,17 +8,13 @@ use lib.Dec.{ltb}
 use lib.ListN.{length}
 use lib.Ieee.{Float}
 use borrow.Author.Tests.{ltb-true, ltb-false}
+use Rattle.std.specs.Prelude.{Some, None}
 use Rattle.geometry.specs.declared.Vec2.{Vec2}
 use Rattle.ring.specs.Sample.{sample_of}
-use Rattle.hits.specs.declared.Hit.TheVariants.{At, Missed}
+use Rattle.hits.specs.Candidates.{hit}
 use Rattle.hits.specs.Hits.{polygon_hit, sample_hit}
 use Rattle.hits.proofs.HitLoops.{polygon_hit_same, sample_hit_yes, sample_hit_no, sample_hit_none}
-use Rattle.ship.specs.declared.Blocks.{Blocks}
 use Rattle.ship.specs.Model.{Deck}
-use Rattle.ship.specs.Decode.{deck_at}
-use Rattle.ship.specs.Questions.{DeckOfPassed}
-use Rattle.ship.proofs.Facts.{sound}
-use Rattle.ship.proofs.ModelFacts.{polygons_length}
 use Rattle.search.specs.OnDeck.{passes_at, deck_turn, next_hit}
 use Rattle.search.proofs.PolygonLoop.{NonePass, first_is, none_is}
 use Rattle.keeping.specs.declared.Kept.{Kept}
@@ -59,47 +55,45 @@ module _ {deck : Deck} {array : List ℕ} {kept : Kept} {q : Vec2} {from j : ℕ
       pub looked_more : r ≡ false → Looked deck array kept q from (j + 1)
       looked_more e = more (λ l. rw (← is) (sym test ∙ e))
 
-      pub next_is : (i : ℕ) → from ≤ k → j < sought_count (length deck.polygons) kept → r ≡ true → At i k ≡ next_hit deck q i from
+      pub next_is : (i : ℕ) → from ≤ k → j < sought_count (length deck.polygons) kept → r ≡ true → Some (hit i k) ≡ next_hit deck q i from
       next_is i l h e =
           first_is deck q i from k l (rw is (sought_below m.at.list j h)) (rw is m.none) (sym test ∙ e)
 
-  pub next_none : (i : ℕ) → sought_count (length deck.polygons) kept ≤ j → j ≤ sought_count (length deck.polygons) kept → Missed ≡ next_hit deck q i from
+  pub next_none : (i : ℕ) → sought_count (length deck.polygons) kept ≤ j → j ≤ sought_count (length deck.polygons) kept → None ≡ next_hit deck q i from
   next_none i h l =
       let at : j ≡ sought_count (length deck.polygons) kept = omega arith in
       let all : sought_at array kept j ≡ length deck.polygons = ap (sought_at array kept) at ∙ sought_end m.at.list in
       none_is deck q i from (subst (NonePass deck q from) all m.none)
 
 -- ---- what the calls in the loops ask
-module _ {file : List ℕ} {b : Blocks} (passed : DeckOfPassed file b) {array : List ℕ} {kept : Kept} where
-  module _ {q : Vec2} (at : KeptAt (deck_at file b) array kept q) where
+module _ {deck : Deck} {n : ℕ} (size : n ≡ length deck.polygons) {array : List ℕ} {kept : Kept} where
+  module _ {q : Vec2} (at : KeptAt deck array kept q) where
     pub list_inside : kept.start + kept.count ≤ length array
     list_inside = at.list.inside
 
     pub list_few : kept.count ≤ kept.rest
     list_few = at.list.few
 
-    pub list_there : kept.rest ≤ b.polygons
-    list_there = omega (arith, at.list.there, polygons_length file b)
+    pub list_there : kept.rest ≤ n
+    list_there = omega (arith, at.list.there, size)
 
-    module _ {count j : ℕ} (all : count ≡ sought_count b.polygons kept) (l : j < count) where
-      pub number_fits : kept.rest + j < 2 ^ 63
-      number_fits = omega (arith, list_few, list_there, (sound passed).few_polygons)
+    module _ {count j : ℕ} (all : count ≡ sought_count n kept) (l : j < count) where
+      pub number_fits : n < 2 ^ 24 → kept.rest + j < 2 ^ 63
+      number_fits few = omega (arith, list_few, list_there)
 
-      pub number_there : {k : ℕ} → k ≡ sought_at array kept j → k < b.polygons
-      number_there is =
-          let n = polygons_length file b in
-          omega (arith, n, sought_below at.list j (rw (n, ← all) l))
+      pub number_there : {k : ℕ} → k ≡ sought_at array kept j → k < length deck.polygons
+      number_there is = omega (arith, sought_below at.list j (rw (← size, ← all) l))
 
   -- ---- `next_hit`
-  module _ {q : Vec2} {from j count : ℕ} (m : Looked (deck_at file b) array kept q from j) (all : count ≡ sought_count b.polygons kept) where
-    in_deck : count ≡ sought_count (length (deck_at file b).polygons) kept
-    in_deck = rw (polygons_length file b) all
+  module _ {q : Vec2} {from j count : ℕ} (m : Looked deck array kept q from j) (all : count ≡ sought_count n kept) where
+    in_deck : count ≡ sought_count (length deck.polygons) kept
+    in_deck = rw (← size) all
 
-    pub found_next : {i k : ℕ} {r : Bool} → j < count → k ≡ sought_at array kept j → from ≤ k → r ≡ passes_at (deck_at file b) q k → r ≡ true
-        → At i k ≡ next_hit (deck_at file b) q i from
+    pub found_next : {i k : ℕ} {r : Bool} → j < count → k ≡ sought_at array kept j → from ≤ k → r ≡ passes_at deck q k → r ≡ true
+        → Some (hit i k) ≡ next_hit deck q i from
     found_next {i} l is h test e = next_is m is test i h (rw (← in_deck) l) e
 
-    pub found_none : (i : ℕ) → count ≤ j → j ≤ count → Missed ≡ next_hit (deck_at file b) q i from
+    pub found_none : (i : ℕ) → count ≤ j → j ≤ count → None ≡ next_hit deck q i from
     found_none i h l = next_none m i (rw (← in_deck) h) (rw (← in_deck) l)
 
 pub ruleset nexts = (list_inside, list_few, list_there, number_fits, number_there, looked_all, looked_before, looked_more, found_next, found_none)
@@ -130,66 +124,63 @@ module _ {deck : Deck} {p : Vec2} {reach : Float} {s i : ℕ} (l : SamplesLeft d
   sample_looked ring at = looked_all 0 (rw at (ring.at i))
 
   module _ (b : i < 10 * s + 1) {q : Vec2} (at : q ≡ sample_of p reach s i) where
-    hit_ends : {k : ℕ} → At i k ≡ next_hit deck q i 0 → At i k ≡ deck_turn deck p reach s
+    hit_ends : {k : ℕ} → Some (hit i k) ≡ next_hit deck q i 0 → Some (hit i k) ≡ deck_turn deck p reach s
     hit_ends {k} e =
-        sym (l.same ∙ sample_hit_yes (passes_at_sample deck p reach s) (length deck.polygons) i (10 * s + 1) i k b (sample_hit_lem deck p reach s i at ∙ sym e))
+        sym (l.same ∙ sample_hit_yes (passes_at_sample deck p reach s) (length deck.polygons) i (10 * s + 1) (hit i k) b (sample_hit_lem deck p reach s i at ∙ sym e))
 
-    miss_goes_on : Missed ≡ next_hit deck q i 0 → SamplesLeft deck p reach s (i + 1)
+    miss_goes_on : None ≡ next_hit deck q i 0 → SamplesLeft deck p reach s (i + 1)
     miss_goes_on e =
         record { same = l.same ∙ sample_hit_no (passes_at_sample deck p reach s) (length deck.polygons) i (10 * s + 1) b (sample_hit_lem deck p reach s i at ∙ sym e) }
 
-  pub all_missed : 10 * s + 1 ≤ i → Missed ≡ deck_turn deck p reach s
+  pub all_missed : 10 * s + 1 ≤ i → None ≡ deck_turn deck p reach s
   all_missed e = sym (l.same ∙ sample_hit_none (passes_at_sample deck p reach s) (length deck.polygons) i (10 * s + 1) e)
 
-module _ {file : List ℕ} {b : Blocks} (passed : DeckOfPassed file b) {array : List ℕ} {kept : Kept} {p : Vec2} {reach : Float} {s : ℕ}
-    (ring : RingKept (deck_at file b) array kept p reach s) where
+module _ {deck : Deck} {n : ℕ} (size : n ≡ length deck.polygons) {array : List ℕ} {kept : Kept} {p : Vec2} {reach : Float} {s : ℕ}
+    (ring : RingKept deck array kept p reach s) where
   pub ring_few : kept.count ≤ kept.rest
-  ring_few = list_few passed (ring.at 0)
+  ring_few = list_few size (ring.at 0)
 
-  pub ring_rest : kept.rest ≤ b.polygons
-  ring_rest = list_there passed (ring.at 0)
+  pub ring_rest : kept.rest ≤ n
+  ring_rest = list_there size (ring.at 0)
 
-module _ {file : List ℕ} {b : Blocks} (passed : DeckOfPassed file b) {array : List ℕ} {kept : Kept} {count : ℕ} (all : count ≡ sought_count b.polygons kept) where
-  module _ {p : Vec2} {reach : Float} {s : ℕ} (ring : RingKept (deck_at file b) array kept p reach s) where
+module _ {deck : Deck} {n : ℕ} (size : n ≡ length deck.polygons) {array : List ℕ} {kept : Kept} {count : ℕ} (all : count ≡ sought_count n kept) where
+  module _ {p : Vec2} {reach : Float} {s : ℕ} (ring : RingKept deck array kept p reach s) where
     -- ---- what the calls before and in the loops ask
     pub ring_inside : kept.start + kept.count ≤ length array
-    ring_inside = list_inside passed (ring.at 0)
+    ring_inside = list_inside size (ring.at 0)
 
-    pub ring_fits : {j : ℕ} → j < count → kept.rest + j < 2 ^ 63
-    ring_fits l = number_fits passed (ring.at 0) all l
+    pub ring_fits : {j : ℕ} → j < count → n < 2 ^ 24 → kept.rest + j < 2 ^ 63
+    ring_fits l few = number_fits size (ring.at 0) all l few
 
-    pub ring_there : {j k : ℕ} → j < count → k ≡ sought_at array kept j → k < b.polygons
-    ring_there l is = number_there passed (ring.at 0) all l is
+    pub ring_there : {j k : ℕ} → j < count → k ≡ sought_at array kept j → k < length deck.polygons
+    ring_there l is = number_there size (ring.at 0) all l is
 
     -- ---- nothing to look at: every sample misses
-    pub turn_none : count ≡ 0 → Missed ≡ deck_turn (deck_at file b) p reach s
+    pub turn_none : count ≡ 0 → None ≡ deck_turn deck p reach s
     turn_none none = go (10 * s + 1) 0 (omega arith) samples_all
       where
-        deck : Deck
-        deck = deck_at file b
-
         empty : sought_count (length deck.polygons) kept ≡ 0
-        empty = rw (polygons_length file b) (sym all ∙ none)
+        empty = rw (← size) (sym all ∙ none)
 
-        misses : (i : ℕ) → Missed ≡ next_hit deck (sample_of p reach s i) i 0
+        misses : (i : ℕ) → None ≡ next_hit deck (sample_of p reach s i) i 0
         misses i = next_none (looked_all 0 (ring.at i)) i (omega (arith, empty)) (omega arith)
 
-        go : (d i : ℕ) → i + d ≡ 10 * s + 1 → SamplesLeft deck p reach s i → Missed ≡ deck_turn deck p reach s
+        go : (d i : ℕ) → i + d ≡ 10 * s + 1 → SamplesLeft deck p reach s i → None ≡ deck_turn deck p reach s
         go zero i e l = all_missed l (omega arith)
         go (suc d) i e l = go d (i + 1) (omega arith) (miss_goes_on l (omega arith) refl (misses i))
 
   -- ---- the loops
-  module _ {p q : Vec2} {reach : Float} {s i j : ℕ} (l : SamplesLeft (deck_at file b) p reach s i) (under : i < 10 * s + 1) (at : q ≡ sample_of p reach s i)
-      (m : Looked (deck_at file b) array kept q 0 j) where
-    pub turn_hit : {k : ℕ} {r : Bool} → j < count → k ≡ sought_at array kept j → r ≡ passes_at (deck_at file b) q k → r ≡ true
-        → At i k ≡ deck_turn (deck_at file b) p reach s
-    turn_hit h is test e = hit_ends l under at (found_next passed m all h is (omega arith) test e)
+  module _ {p q : Vec2} {reach : Float} {s i j : ℕ} (l : SamplesLeft deck p reach s i) (under : i < 10 * s + 1) (at : q ≡ sample_of p reach s i)
+      (m : Looked deck array kept q 0 j) where
+    pub turn_hit : {k : ℕ} {r : Bool} → j < count → k ≡ sought_at array kept j → r ≡ passes_at deck q k → r ≡ true
+        → Some (hit i k) ≡ deck_turn deck p reach s
+    turn_hit h is test e = hit_ends l under at (found_next size m all h is (omega arith) test e)
 
     module _ (h : count ≤ j) (le : j ≤ count) where
-      pub samples_more : SamplesLeft (deck_at file b) p reach s (i + 1)
-      samples_more = miss_goes_on l under at (found_none passed m all i h le)
+      pub samples_more : SamplesLeft deck p reach s (i + 1)
+      samples_more = miss_goes_on l under at (found_none size m all i h le)
 
-      pub turn_missed : 10 * s + 1 ≤ i + 1 → Missed ≡ deck_turn (deck_at file b) p reach s
+      pub turn_missed : 10 * s + 1 ≤ i + 1 → None ≡ deck_turn deck p reach s
       turn_missed e = all_missed samples_more e
 
 pub ruleset turns = (ring_few, ring_rest, ring_inside, ring_fits, ring_there, turn_none, samples_all, sample_looked, looked_more, turn_hit, samples_more, turn_missed)

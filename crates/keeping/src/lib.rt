@@ -2,20 +2,18 @@
 // other polygon passes where it is searched for; how it was found does not matter here.
 #![tactic(auto)]
 
-ghost use Rattle.std.specs.Prelude.{◌≡◌, ◌+◌, ◌^◌, ◌≤◌, ◌<◌, length, set};
+ghost use Rattle.std.specs.Prelude.{◌≡◌, ◌+◌, ◌^◌, ◌≤◌, ◌<◌, length};
 ghost use Rattle.ring.specs.Table.{directions};
-ghost use Rattle.ship.specs.Decode.{deck_at};
-ghost use Rattle.ship.specs.Questions.{DeckOfPassed};
 ghost use Rattle.search.specs.OnDeck.{deck_turn, next_hit};
 ghost use Rattle.keeping.specs.Kept.{sought_at, sought_count, KeptAt, RingKept};
 ghost use Rattle.keeping.specs.Lists.{list_at, with_list, every_polygon, ListsRoom};
 
+use decks::Deck;
 use geometry::Vec2;
 use hits::Hit;
-use ship::Blocks;
 
 // The polygons whose numbers stand in an array, `count` of them from `start` on, and every polygon from number `rest` on.
-#[derive(Clone, Copy)]
+#[derive(Clone, Copy, Debug, PartialEq, Eq)]
 pub struct Kept {
     pub start: usize,
     pub count: usize,
@@ -33,21 +31,6 @@ pub const KEPT_SIZE: usize = 4864;
 
 pub const NEAR_SIZE: usize = 4096;
 
-// A number of the array. Lent to a function, it needs no proof that it fits.
-fn wide(x: u32) -> usize
-    ensures { result ≡ x }
-{
-    x as usize
-}
-
-// A number is written at its place.
-pub fn put(array: &mut [u32], at: usize, x: usize)
-    requires { (at < length array.old) × (x < 2 ^ 32) }
-    ensures { array.new ≡ set array.old at x }
-{
-    array[at] = x as u32;
-}
-
 // Deck d's list.
 pub fn list_of(array: &[u32], d: usize) -> Kept
     requires { ListsRoom array.now × (d < 256) }
@@ -55,20 +38,21 @@ pub fn list_of(array: &[u32], d: usize) -> Kept
 {
     let at = LIST_SIZE * d;
     Kept {
-        start: wide(array[at]),
-        count: wide(array[at + 1]),
-        rest: wide(array[at + 2]),
+        start: array[at] as usize,
+        count: array[at + 1] as usize,
+        rest: array[at + 2] as usize,
     }
 }
 
+#[tactic(auto, unfolding(crate::specs::Lists::with_list))]
 pub fn put_list(array: &mut [u32], d: usize, kept: Kept)
     requires { ListsRoom array.old × ((d < 256) × ((kept.start + kept.count ≤ 2 ^ 31) × (kept.rest < 2 ^ 31))) }
     ensures { array.new ≡ with_list array.old d kept }
 {
     let at = LIST_SIZE * d;
-    put(array, at, kept.start);
-    put(array, at + 1, kept.count);
-    put(array, at + 2, kept.rest);
+    array[at] = kept.start as u32;
+    array[at + 1] = kept.count as u32;
+    array[at + 2] = kept.rest as u32;
 }
 
 // The list that has a search look at every polygon.
@@ -96,8 +80,7 @@ pub fn sought(array: &[u32], kept: Kept, j: usize) -> usize
     ensures { result ≡ sought_at array.now kept j }
 {
     if j < kept.count {
-        let at = kept.start + j;
-        wide(array[at])
+        array[kept.start + j] as usize
     } else {
         kept.rest + (j - kept.count)
     }
@@ -106,66 +89,60 @@ pub fn sought(array: &[u32], kept: Kept, j: usize) -> usize
 // The turn of a deck in step s around p, in the deck's own coordinates: the first sample that hits ends it. Where the list has nothing to look at, no
 // sample is made.
 pub fn first_hit(
-    file: &[u8],
-    b: Blocks,
+    deck: &Deck<'_>,
     t: &[i32; 2432],
     p: Vec2,
     reach: f32,
     s: usize,
     array: &[u32],
     kept: Kept,
-) -> Hit
-    requires { DeckOfPassed file.now b × ((t.now ≡ directions) × ((s < 16)
-        × RingKept (deck_at file.now b) array.now kept p reach s)) }
-    ensures { result ≡ deck_turn (deck_at file.now b) p reach s }
+) -> Option<Hit>
+    requires { (t.now ≡ directions) × ((s < 16) × RingKept deck.now array.now kept p reach s) }
+    ensures { result ≡ deck_turn deck.now p reach s }
 {
-    let count = sought_count(b.polygons, kept);
+    let count = sought_count(deck.polygon_count(), kept);
     if count == 0 {
-        return Hit::Missed;
+        return None;
     }
     let samples = 10 * s + 1;
     let mut i: usize = 0;
-    let hit = 'samples: loop {
+    // A loop over the samples, not a for: it has a value, the hit that a labelled break takes out of both loops.
+    'samples: loop {
         let q = ring::sample(t, p, reach, s, i);
-        let mut j: usize = 0;
-        'polygons: while j < count {
-            let k = sought(array, kept, j);
-            if search::point_in_polygon(file, b, k, q) {
-                break 'samples Hit::At(i, k);
+        'polygons: for j in 0..count {
+            let polygon = sought(array, kept, j);
+            if search::point_in_polygon(deck, polygon, q) {
+                break 'samples Some(Hit { sample: i, polygon });
             }
-            j += 1;
         }
         i += 1;
         if i >= samples {
-            break 'samples Hit::Missed;
+            break 'samples None;
         }
-    };
-    hit
+    }
 }
 
 // The first polygon from number k on that passes at q, which is sample i.
 pub fn next_hit(
-    file: &[u8],
-    b: Blocks,
+    deck: &Deck<'_>,
     q: Vec2,
     i: usize,
     k: usize,
     array: &[u32],
     kept: Kept,
-) -> Hit
-    requires { DeckOfPassed file.now b × KeptAt (deck_at file.now b) array.now kept q }
-    ensures { result ≡ next_hit (deck_at file.now b) q i k }
+) -> Option<Hit>
+    requires { KeptAt deck.now array.now kept q }
+    ensures { result ≡ next_hit deck.now q i k }
 {
-    let count = sought_count(b.polygons, kept);
-    let mut j: usize = 0;
-    'polygons: while j < count {
-        let next = sought(array, kept, j);
-        j += 1;
-        if next >= k {
-            if search::point_in_polygon(file, b, next, q) {
-                return Hit::At(i, next);
-            }
+    let count = sought_count(deck.polygon_count(), kept);
+    'polygons: for j in 0..count {
+        let polygon = sought(array, kept, j);
+        if polygon < k {
+            continue;
+        }
+        if search::point_in_polygon(deck, polygon, q) {
+            return Some(Hit { sample: i, polygon });
         }
     }
-    Hit::Missed
+    None
 }

@@ -1,18 +1,13 @@
 -- A polygon's vertices: what is read of one by its number, and the lists that are made of them, from vertex j on.
 use Prim.Native.Nat.{ℕ, ◌+◌, ◌≤◌, ◌<◌}
 use native.Mathlib.Numerals.{add-one}
-use native.Mathlib.Omega.{arith}
 use mathlib.Core.Path.{◌≡◌}
 use mathlib.Core.List.{List, [], ◌∷◌, map}
-use mathlib.Core.Logic.{⊎_elim}
 use lib.ListN.{length, get_or, drop, length-map, drop_of_length-le, get_or-map}
 use lib.Ieee.{Float}
 use lib.Seq.{drop-cons}
 use Rattle.geometry.specs.declared.Vec2.{Vec2}
-use Rattle.ship.specs.declared.Blocks.{Blocks}
 use Rattle.ship.specs.Model.{Deck, point_of, height_of}
-use Rattle.ship.specs.Questions.{DeckOfPassed}
-use Rattle.ship.proofs.Facts.{sound}
 
 -- ---- a vertex whose number was read first
 module _ (deck : Deck) {i n : ℕ} where
@@ -22,11 +17,7 @@ module _ (deck : Deck) {i n : ℕ} where
   pub height_read : {h : Float} → h ≡ height_of deck i → i ≡ n → h ≡ height_of deck n
   height_read h e = rw e at h
 
--- a deck that has heights has one a vertex
-pub height_there : {s : List ℕ} {b : Blocks} {i : ℕ} → DeckOfPassed s b → 0 < b.heights → i < b.vertices → i < b.heights
-height_there h some there = ⊎_elim (λ none. omega arith) (λ all. omega arith) (sound h).none_or_all
-
-pub ruleset corners = (point_read, height_read, height_there)
+pub ruleset corners = (point_read, height_read)
 
 -- ---- a list with an entry for each of count vertices
 module _ {A : Type 0} (f : ℕ → A) (l : List ℕ) {count j : ℕ} (n : count ≡ length l) where

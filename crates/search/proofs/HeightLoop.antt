@@ -12,10 +12,7 @@ use Rattle.geometry.specs.declared.Height.TheVariants.{Known, None}
 use Rattle.geometry.specs.declared.HeightSum.{HeightSum}
 use Rattle.geometry.specs.Plane.{on_segment}
 use Rattle.geometry.specs.Heights.{Corner, height_along, first_of, plus_height, mean_of, sum_from, height_from, mean_height, height_in}
-use Rattle.ship.specs.declared.Blocks.{Blocks}
 use Rattle.ship.specs.Model.{Deck, point_of, height_of, corners_of, corner_at, polygon_corners}
-use Rattle.ship.specs.Decode.{deck_at}
-use Rattle.ship.proofs.ModelFacts.{heights_length}
 use Rattle.search.specs.OnDeck.{height_with, height_on}
 use Rattle.search.proofs.Corners.{made_more, made_none}
 
@@ -55,9 +52,9 @@ no_entries : {A : Type 0} (l : List A) → length l ≡ 0 → l ≡ []
 no_entries [] h = refl
 no_entries (x ∷ xs) h = let no : ⊥ = omega arith in absurd no
 
-pub heights_none : (s : List ℕ) (b : Blocks) (k : ℕ) (place : Vec2) → b.heights ≡ 0 → None ≡ height_on (deck_at s b) k place
+pub heights_none : (deck : Deck) (k : ℕ) (place : Vec2) {n : ℕ} → n ≡ length deck.heights → n ≡ 0 → None ≡ height_on deck k place
 unfolding height_on
-heights_none s b k place h = rw (no_entries (deck_at s b).heights (heights_length s b ∙ h))
+heights_none deck k place e h = rw (no_entries deck.heights (sym e ∙ h))
 
 some_entries : (l : List Float) (place : Vec2) (corners : List Corner) → (length l ≡ 0 → ⊥) → height_with l place corners ≡ height_in place corners
 some_entries [] place corners h = absurd (h refl)
@@ -75,18 +72,17 @@ pub record HeightsLeft (deck : Deck) (k count : ℕ) (place first a : Vec2) (j :
   pub same : height_on deck k place
       ≡ height_from place (Known (mean_height (polygon_corners deck k))) (vertex deck k 0) (vertex deck k (j - 1)) (drop j (polygon_corners deck k))
 
-pub heights_all : (s : List ℕ) (b : Blocks) {k count : ℕ} {place first : Vec2} → (b.heights ≡ 0 → ⊥)
-    → count ≡ length (corners_of (deck_at s b) k) → 1 ≤ count → first ≡ point_of (deck_at s b) (get_or (corners_of (deck_at s b) k) 0 0)
-    → HeightsLeft (deck_at s b) k count place first first 1
+pub heights_all : {deck : Deck} {k count n : ℕ} {place first : Vec2} → n ≡ length deck.heights → (n ≡ 0 → ⊥)
+    → count ≡ length (corners_of deck k) → 1 ≤ count → first ≡ point_of deck (get_or (corners_of deck k) 0 0)
+    → HeightsLeft deck k count place first first 1
 unfolding height_on polygon_corners height_in
-heights_all s b {k} {count} {place} some n h e =
-    let deck = deck_at s b in
+heights_all {deck} {k} {place = place} have some n h e =
     record {
       counts = n;
       begun = e;
       before = e;
       same =
-          some_entries deck.heights place (polygon_corners deck k) (λ z. some (sym (heights_length s b) ∙ z))
+          some_entries deck.heights place (polygon_corners deck k) (λ z. some (have ∙ z))
           ∙ rw (made_more (corner_at deck) (corners_of deck k) n h);
     }
 

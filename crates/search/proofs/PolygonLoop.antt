@@ -4,18 +4,15 @@ use Prim.Native.Nat.{ℕ, zero, suc, ◌+◌, ◌-◌, ◌≤◌, ◌<◌}
 use native.Mathlib.Omega.{arith}
 use mathlib.Core.Path.{◌≡◌, refl, sym, ap, ◌∙◌}
 use mathlib.Core.Bool.{Bool, true, false}
-use mathlib.Core.List.{List}
 use lib.Dec.{ltb}
 use lib.ListN.{length}
 use borrow.Author.Tests.{ltb-true, ltb-false}
+use Rattle.std.specs.Prelude.{Some, None}
 use Rattle.geometry.specs.declared.Vec2.{Vec2}
-use Rattle.hits.specs.declared.Hit.TheVariants.{At, Missed}
+use Rattle.hits.specs.Candidates.{hit}
 use Rattle.hits.specs.Hits.{polygon_hit}
 use Rattle.hits.proofs.HitLoops.{polygon_hit_yes, polygon_hit_no, polygon_hit_none}
-use Rattle.ship.specs.declared.Blocks.{Blocks}
 use Rattle.ship.specs.Model.{Deck}
-use Rattle.ship.specs.Decode.{deck_at}
-use Rattle.ship.proofs.ModelFacts.{polygons_length}
 use Rattle.search.specs.OnDeck.{passes_at, next_hit}
 
 -- no polygon from a on and before b passes at q
@@ -34,7 +31,7 @@ module _ (deck : Deck) (q : Vec2) (i a : ℕ) where
       ∙ polygon_hit_no (λ h j. passes_at deck q j) i (a + d) n (omega arith) (none (a + d) (omega arith) (omega arith))
       ∙ ap (λ (x : ℕ). polygon_hit (λ h j. passes_at deck q j) i x (n - x)) next
 
-  pub first_is : (k : ℕ) → a ≤ k → k < length deck.polygons → NonePass deck q a k → passes_at deck q k ≡ true → At i k ≡ next_hit deck q i a
+  pub first_is : (k : ℕ) → a ≤ k → k < length deck.polygons → NonePass deck q a k → passes_at deck q k ≡ true → Some (hit i k) ≡ next_hit deck q i a
   unfolding next_hit
   first_is k from below none passes =
       let n : ℕ = length deck.polygons in
@@ -43,11 +40,11 @@ module _ (deck : Deck) (q : Vec2) (i a : ℕ) where
       (past n (k - a) (omega arith) (rw at none)
       ∙ rw at (polygon_hit_yes (λ h j. passes_at deck q j) i k n below passes))
 
-  pub none_is : NonePass deck q a (length deck.polygons) → Missed ≡ next_hit deck q i a
+  pub none_is : NonePass deck q a (length deck.polygons) → None ≡ next_hit deck q i a
   unfolding next_hit
   none_is none = sym (go (ltb a (length deck.polygons)) refl)
     where
-      go : (t : Bool) → ltb a (length deck.polygons) ≡ t → polygon_hit (λ h j. passes_at deck q j) i a (length deck.polygons - a) ≡ Missed
+      go : (t : Bool) → ltb a (length deck.polygons) ≡ t → polygon_hit (λ h j. passes_at deck q j) i a (length deck.polygons - a) ≡ None
       go true e =
           let n : ℕ = length deck.polygons in
           let below = ltb-true a n e in
@@ -62,9 +59,9 @@ pub record PolygonsLeft (deck : Deck) (q : Vec2) (n from k : ℕ) : Type 0 where
   pub onward : from ≤ k
   pub none : NonePass deck q from k
 
-pub polygons_all : (s : List ℕ) (b : Blocks) (from : ℕ) {q : Vec2} → PolygonsLeft (deck_at s b) q b.polygons from from
-polygons_all s b from =
-    record { counts = polygons_length s b; onward = omega arith; none = λ k l below. let no : ⊥ = omega arith in absurd no }
+pub polygons_all : (deck : Deck) (from : ℕ) {q : Vec2} {n : ℕ} → n ≡ length deck.polygons → PolygonsLeft deck q n from from
+polygons_all deck from e =
+    record { counts = sym e; onward = omega arith; none = λ k l below. let no : ⊥ = omega arith in absurd no }
 
 module _ {deck : Deck} {q : Vec2} {n from k : ℕ} (m : PolygonsLeft deck q n from k) where
   module _ {r : Bool} (test : r ≡ passes_at deck q k) where
@@ -77,10 +74,10 @@ module _ {deck : Deck} {q : Vec2} {n from k : ℕ} (m : PolygonsLeft deck q n fr
             let at : k ≡ j = omega (arith, ltb-false j k f) in
             rw (← at) (sym test ∙ e)
 
-    pub next_is : (i : ℕ) → k < n → r ≡ true → At i k ≡ next_hit deck q i from
+    pub next_is : (i : ℕ) → k < n → r ≡ true → Some (hit i k) ≡ next_hit deck q i from
     next_is i h e = first_is deck q i from k m.onward (omega (arith, m.counts)) m.none (sym test ∙ e)
 
-  pub next_none : (i : ℕ) → n ≤ k → Missed ≡ next_hit deck q i from
+  pub next_none : (i : ℕ) → n ≤ k → None ≡ next_hit deck q i from
   next_none i h = none_is deck q i from (λ j l below. m.none j l (omega (arith, m.counts)))
 
 pub ruleset nexts = (polygons_all, polygons_more, next_is, next_none)

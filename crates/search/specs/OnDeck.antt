@@ -1,5 +1,5 @@
 -- Document 01, sections 3 to 6, on one deck of the model: which polygon holds a point, the first sample that hits, and the height at a place.
-use Rattle.std.specs.Prelude.{ℕ, ◌+◌, ◌-◌, ◌*◌, List, [], ◌∷◌, Bool, length, Float}
+use Rattle.std.specs.Prelude.{ℕ, ◌+◌, ◌-◌, ◌*◌, List, [], ◌∷◌, Bool, length, Option, Float}
 use Rattle.geometry.specs.declared.Vec2.{Vec2}
 use Rattle.geometry.specs.declared.Height.{Height}
 use Rattle.geometry.specs.declared.Height.TheVariants.{None}
@@ -15,11 +15,11 @@ unfoldable pub passes_at : Deck → Vec2 → ℕ → Bool
 passes_at deck p k = point_in_polygon p (polygon_points deck k)
 
 -- the turn of a deck in step s, around p in the deck's own coordinates
-unfoldable pub deck_turn : Deck → Vec2 → Float → ℕ → Hit
+unfoldable pub deck_turn : Deck → Vec2 → Float → ℕ → Option Hit
 deck_turn deck p reach s = sample_hit (λ i k. passes_at deck (sample_of p reach s i) k) (length deck.polygons) 0 (10 * s + 1)
 
 -- the first polygon from k on that passes at q, which is sample i
-unfoldable pub next_hit : Deck → Vec2 → ℕ → ℕ → Hit
+unfoldable pub next_hit : Deck → Vec2 → ℕ → ℕ → Option Hit
 next_hit deck q i k = polygon_hit (λ h j. passes_at deck q j) i k (length deck.polygons - k)
 
 -- none where H is empty; the deck offset is not taken off

@@ -10,11 +10,8 @@ use Rattle.boxes.specs.declared.BoxTest.{BoxTest}
 use Rattle.boxes.specs.declared.BoxTest.TheVariants.{Never, Next, Maybe}
 use Rattle.boxes.specs.Box.{InBox, BoxWithin, PointsWithin, box_test_of, box_answer, may_pass_from, may_pass}
 use Rattle.boxes.proofs.Polygons.{passes_none}
-use Rattle.ship.specs.declared.Blocks.{Blocks}
 use Rattle.ship.specs.Model.{Deck, point_of, corners_of, polygon_points}
-use Rattle.ship.specs.Decode.{deck_at}
-use Rattle.ship.specs.Questions.{DeckOfPassed}
-use Rattle.ship.proofs.ModelFacts.{point_within}
+use Rattle.ship.specs.Within.{DeckWithin}
 use Rattle.search.specs.OnDeck.{passes_at}
 use Rattle.search.proofs.Corners.{made_more, made_none}
 use Rattle.sifting.specs.Sifted.{may_pass_at}
@@ -63,12 +60,12 @@ module _ {deck : Deck} {k count : ℕ} {bounds : BoundingBox} {first : Vec2} whe
 pub ruleset edges = (edges_all, edge_next, edge_never, edge_maybe, last_next, last_never, last_maybe)
 
 -- ---- a no means that the polygon passes at no point of the box
-module _ {file : List ℕ} {b : Blocks} (passed : DeckOfPassed file b) where
-  points_within : (l : List ℕ) → PointsWithin 1000000 (map (point_of (deck_at file b)) l)
+module _ {deck : Deck} (within : DeckWithin deck) where
+  points_within : (l : List ℕ) → PointsWithin 1000000 (map (point_of deck) l)
   points_within [] = tt
-  points_within (i ∷ rest) = (point_within passed i, points_within rest)
+  points_within (i ∷ rest) = (within.point i, points_within rest)
 
-  pub sifted_out : {bounds : BoundingBox} {q : Vec2} → BoxWithin 4000000 bounds → InBox bounds q → (k : ℕ) → may_pass_at (deck_at file b) bounds k ≡ false
-      → passes_at (deck_at file b) q k ≡ false
+  pub sifted_out : {bounds : BoundingBox} {q : Vec2} → BoxWithin 4000000 bounds → InBox bounds q → (k : ℕ) → may_pass_at deck bounds k ≡ false
+      → passes_at deck q k ≡ false
   unfolding may_pass_at passes_at polygon_points
-  sifted_out w i k e = passes_none w i (polygon_points (deck_at file b) k) (points_within (corners_of (deck_at file b) k)) e
+  sifted_out w i k e = passes_none w i (polygon_points deck k) (points_within (corners_of deck k)) e

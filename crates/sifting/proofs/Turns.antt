@@ -9,9 +9,7 @@ use Rattle.geometry.specs.declared.Vec2.{Vec2}
 use Rattle.boxes.specs.declared.BoundingBox.{BoundingBox}
 use Rattle.boxes.specs.StepBox.{step_box}
 use Rattle.boxes.proofs.Samples.{step_box_within, sample_in_box}
-use Rattle.ship.specs.declared.Blocks.{Blocks}
 use Rattle.ship.specs.Model.{Deck}
-use Rattle.ship.specs.Decode.{deck_at}
 use Rattle.keeping.specs.declared.Kept.{Kept}
 use Rattle.keeping.specs.Kept.{RingKept}
 use Rattle.keeping.specs.Lists.{every_polygon}
@@ -33,38 +31,36 @@ over_every deck bounds array =
       others = λ q i k h absent. let no-polygon : ⊥ = omega arith in absurd no-polygon;
     }
 
-module _ {file : List ℕ} {b : Blocks} {p : Vec2} {reach : Float} {s : ℕ} (a : Around file b p reach s) where
-  ring_kept : {array : List ℕ} {kept : Kept} → KeptOver (deck_at file b) (step_box p reach s) array kept → RingKept (deck_at file b) array kept p reach s
+module _ {deck : Deck} {p : Vec2} {reach : Float} {s : ℕ} (a : Around p reach s) where
+  ring_kept : {array : List ℕ} {kept : Kept} → KeptOver deck (step_box p reach s) array kept → RingKept deck array kept p reach s
   ring_kept over = record { at = λ i. over_at over (sample_in_box a.point_within a.reach_allowed a.step_few i) }
 
   module _ {bounds : BoundingBox} (box : bounds ≡ step_box p reach s) where
     -- ---- `sift_deck`
-    pub every_ready : {none : List ℕ} {every : Kept} {into : List ℕ} {at : ℕ} → every ≡ every_polygon → at ≤ length into → SiftReady file b bounds none every into at
+    pub every_ready : {none : List ℕ} {every : Kept} {into : List ℕ} {at : ℕ} → every ≡ every_polygon → at ≤ length into → SiftReady deck bounds none every into at
     every_ready {none} e h =
         rw (box, e)
         (record {
-          deck_passed = a.deck_passed;
           box_within = step_box_within a.point_within a.reach_allowed a.step_few;
-          source_kept = over_every (deck_at file b) (step_box p reach s) none;
+          source_kept = over_every deck (step_box p reach s) none;
           place = h;
         })
 
-    pub every_sifted : {at : ℕ} {before after : List ℕ} {kept : Kept} → SiftedInto (deck_at file b) bounds at before after kept
-        → SiftedInto (deck_at file b) (step_box p reach s) at before after kept
+    pub every_sifted : {at : ℕ} {before after : List ℕ} {kept : Kept} → SiftedInto deck bounds at before after kept
+        → SiftedInto deck (step_box p reach s) at before after kept
     every_sifted sifted = rw (← box) sifted
 
     -- ---- `turn`
-    pub near_ready : {array : List ℕ} {kept : Kept} {near : List ℕ} → KeptOver (deck_at file b) (step_box p reach s) array kept → SiftReady file b bounds array kept near 0
+    pub near_ready : {array : List ℕ} {kept : Kept} {near : List ℕ} → KeptOver deck (step_box p reach s) array kept → SiftReady deck bounds array kept near 0
     near_ready over =
         rw box
         (record {
-          deck_passed = a.deck_passed;
           box_within = step_box_within a.point_within a.reach_allowed a.step_few;
           source_kept = over;
           place = omega arith;
         })
 
-    pub near_kept : {before near : List ℕ} {nearer : Kept} → SiftedInto (deck_at file b) bounds 0 before near nearer → RingKept (deck_at file b) near nearer p reach s
+    pub near_kept : {before near : List ℕ} {nearer : Kept} → SiftedInto deck bounds 0 before near nearer → RingKept deck near nearer p reach s
     near_kept sifted = ring_kept (rw (← box) sifted.kept_over)
 
 pub ruleset turns = (every_ready, every_sifted, near_ready, near_kept)

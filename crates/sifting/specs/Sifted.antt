@@ -5,10 +5,7 @@ use Rattle.geometry.specs.Bounds.{PointWithin}
 use Rattle.boxes.specs.declared.BoundingBox.{BoundingBox}
 use Rattle.boxes.specs.Box.{InBox, BoxWithin, may_pass}
 use Rattle.boxes.specs.StepBox.{ReachAllowed}
-use Rattle.ship.specs.declared.Blocks.{Blocks}
 use Rattle.ship.specs.Model.{Deck, polygon_points}
-use Rattle.ship.specs.Decode.{deck_at}
-use Rattle.ship.specs.Questions.{DeckOfPassed}
 use Rattle.keeping.specs.declared.Kept.{Kept}
 use Rattle.keeping.specs.Kept.{ListIn, OthersFail}
 
@@ -29,11 +26,10 @@ pub record KeptOver (deck : Deck) (bounds : BoundingBox) (array : List ℕ) (kep
   pub list : ListIn (length deck.polygons) array kept
   pub others : (q : Vec2) → InBox bounds q → OthersFail deck array kept q
 
--- a deck, a box, a list to go over, and a place in an array for what is kept of it
-pub record SiftReady (file : List ℕ) (b : Blocks) (bounds : BoundingBox) (from : List ℕ) (source : Kept) (into : List ℕ) (at : ℕ) : Type 0 where
-  pub deck_passed : DeckOfPassed file b
+-- a box, a list of the deck to go over, and a place in an array for what is kept of it
+pub record SiftReady (deck : Deck) (bounds : BoundingBox) (from : List ℕ) (source : Kept) (into : List ℕ) (at : ℕ) : Type 0 where
   pub box_within : BoxWithin 4000000 bounds
-  pub source_kept : KeptOver (deck_at file b) bounds from source
+  pub source_kept : KeptOver deck bounds from source
   pub place : at ≤ length into
 
 -- the list that was made stands there, and what stood before it stands as it did
@@ -43,9 +39,8 @@ pub record SiftedInto (deck : Deck) (bounds : BoundingBox) (at : ℕ) (before af
   pub long : length after ≡ length before
   pub same : (i : ℕ) → i < at → get_or after i 0 ≡ get_or before i 0
 
--- a deck, and a point in its coordinates around which the samples of step s lie
-pub record Around (file : List ℕ) (b : Blocks) (p : Vec2) (reach : Float) (s : ℕ) : Type 0 where
-  pub deck_passed : DeckOfPassed file b
+-- a point around which the samples of step s lie, in a deck's coordinates
+pub record Around (p : Vec2) (reach : Float) (s : ℕ) : Type 0 where
   pub point_within : PointWithin 3000000 p
   pub reach_allowed : ReachAllowed reach
   pub step_few : s < 16

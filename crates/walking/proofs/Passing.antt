@@ -9,7 +9,6 @@ use lib.IntN.{ℤ}
 use lib.ListN.{length, get_or, drop, length-drop}
 use Rattle.geometry.specs.Bounds.{PointWithin}
 use Rattle.words.proofs.Writing.{NextOf, next_of}
-use Rattle.answers.specs.declared.Check.TheVariants.{Passed}
 use Rattle.hits.specs.declared.Candidate.{Candidate}
 use Rattle.hits.specs.Candidates.{candidate}
 use Rattle.ship.specs.Questions.{first_no}
@@ -21,6 +20,7 @@ use Rattle.walking.specs.Sees.{shown_by, seen_by, CandidateIn, CandidateWithin}
 use Rattle.walking.specs.Lists.{WalkReady}
 use Rattle.walking.specs.Walk.{candidates_after, left_of, NextIn, WalkedStep, WalkedAfter}
 use Rattle.walking.proofs.ShownLaws.{candidate_within, few_candidates}
+use Rattle.std.specs.Prelude.{Ok}
 
 -- stands for a candidate that is not there
 abbrev pub nowhere : Candidate
@@ -28,7 +28,7 @@ nowhere = candidate 0 0 0 0
 
 -- the first n candidates are passed, and the others are left
 pub record Passing (file blocked : List ℕ) (seat : Seat) (s n : ℕ) (next : Next) : Type 0 where
-  pub passed : first_no file ≡ Passed
+  pub passed : first_no file ≡ Ok tt
   pub place_within : PointWithin 1000000 seat.place
   pub next_in : NextIn file next
   pub left_is : drop n (candidates (seen_by file blocked seat) s) ≡ left_of (seen_by file blocked seat) next

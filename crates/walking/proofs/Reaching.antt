@@ -1,7 +1,7 @@
 -- Every sample of a search lies in the box that its lists are kept over: so a list serves each step, and one sifted with a step's own box serves that step.
 use Prim.Native.Nat.{ℕ, ◌-◌, ◌≤◌, ◌<◌}
 use native.Mathlib.Omega.{arith}
-use mathlib.Core.Path.{◌≡◌, refl}
+use mathlib.Core.Path.{◌≡◌}
 use mathlib.Core.List.{List}
 use lib.IntN.{ℤ}
 use lib.Ieee.{Float, binary32}
@@ -16,16 +16,16 @@ use Rattle.boxes.specs.Box.{InBox}
 use Rattle.boxes.specs.StepBox.{step_box, ReachAllowed}
 use Rattle.boxes.proofs.Samples.{sample_in_box, box_in_later}
 use Rattle.words.specs.Bytes.{u32_at}
-use Rattle.answers.specs.declared.Check.TheVariants.{Passed}
 use Rattle.hits.specs.declared.Candidate.{Candidate}
+use Rattle.std.specs.Prelude.{Option, Ok}
 use Rattle.hits.specs.declared.Hit.{Hit}
-use Rattle.ship.specs.declared.Blocks.{Blocks}
-use Rattle.ship.specs.Layout.{reach_position, decks_in, steps_in, blocks_at}
-use Rattle.ship.specs.Model.{Deck}
-use Rattle.ship.specs.Decode.{deck_at, decode}
-use Rattle.ship.specs.Questions.{first_no, DeckOfPassed}
+use Rattle.ship.specs.Layout.{reach_position, decks_in, steps_in}
+use Rattle.ship.specs.Model.{Deck, deck_of}
+use Rattle.ship.specs.Decode.{decode}
+use Rattle.ship.specs.Questions.{first_no}
+use Rattle.ship.specs.Within.{DeckWithin}
 use Rattle.ship.proofs.Facts.{decks_few, reach_from_zero, steps_range}
-use Rattle.ship.proofs.ModelFacts.{offset_within, decode_reach}
+use Rattle.ship.proofs.ModelFacts.{deck_of_within, decode_reach}
 use Rattle.keeping.specs.declared.Kept.{Kept}
 use Rattle.keeping.specs.Kept.{KeptAt}
 use Rattle.keeping.specs.Lists.{list_at, ListsRoom}
@@ -35,10 +35,10 @@ use Rattle.survey.specs.Search.{turn}
 use Rattle.search.specs.OnDeck.{deck_turn}
 use Rattle.walking.specs.Sees.{sample_on, shown_by, CandidateIn}
 use Rattle.walking.specs.Lists.{search_box, TurnReady}
-use Rattle.walking.proofs.ShownLaws.{deck_is, turn_shown, step_few}
+use Rattle.walking.proofs.ShownLaws.{turn_shown, step_few}
 
 -- ---- the reach, and a point in a deck's coordinates
-module _ (file : List ℕ) (passed : first_no file ≡ Passed) where
+module _ (file : List ℕ) (passed : first_no file ≡ Ok tt) where
   pub reach_allowed : ReachAllowed (decode file).reach
   unfolding decode
   reach_allowed =
@@ -60,11 +60,11 @@ over_inner over h = record { list = over.list; others = λ q i. over.others q (h
 -- ---- deck d, read, and the point around which its samples lie
 -- p in the coordinates of deck d
 abbrev pub on_deck : List ℕ → Vec2 → ℕ → Vec2
-on_deck file p d = sub_of p (deck_at file (blocks_at file d)).offset
+on_deck file p d = sub_of p (deck_of (decode file) d).offset
 
-module _ (file : List ℕ) {d : ℕ} {p : Vec2} (passed : first_no file ≡ Passed) (there : d < decks_in file) (within : PointWithin 1000000 p) {s : ℕ} (step : s < steps_in file) where
+module _ (file : List ℕ) {d : ℕ} {p : Vec2} (passed : first_no file ≡ Ok tt) (there : d < decks_in file) (within : PointWithin 1000000 p) {s : ℕ} (step : s < steps_in file) where
   close : PointWithin 3000000 (on_deck file p d)
-  close = around_within within (offset_within (record { number = d; there = there; is = refl; passed = passed }))
+  close = around_within within (deck_of_within file d passed there).offset
 
   pub in_search : (q : Vec2) → InBox (step_box (on_deck file p d) (decode file).reach s) q → InBox (search_box file p d) q
   unfolding search_box
@@ -79,7 +79,7 @@ module _ (file : List ℕ) {d : ℕ} {p : Vec2} (passed : first_no file ≡ Pass
 
 -- ---- `deck_turn`
 module _ {file : List ℕ} {table : List ℤ} {p : Vec2} {d s : ℕ} {array : List ℕ} (ready : TurnReady file table p d s array) where
-  file_passed : first_no file ≡ Passed
+  file_passed : first_no file ≡ Ok tt
   file_passed = ready.file_ready.file_passed
 
   pub turn_room : ListsRoom array
@@ -88,35 +88,34 @@ module _ {file : List ℕ} {table : List ℤ} {p : Vec2} {d s : ℕ} {array : Li
   pub turn_deck : d < 256
   turn_deck = omega (arith, ready.turn.deck, decks_few file file_passed)
 
-  module _ {b : Blocks} {offset around : Vec2} {reach : Float} (is : b ≡ blocks_at file d) (read : offset ≡ (deck_at file b).offset) (moved : around ≡ sub_of p offset)
+  module _ {deck : Deck} {offset around : Vec2} {reach : Float} (is : deck ≡ deck_of (decode file) d) (read : offset ≡ deck.offset) (moved : around ≡ sub_of p offset)
       (reached : reach ≡ (decode file).reach) where
-    pub turn_around : DeckOfPassed file b → Around file b around reach s
-    turn_around deck =
+    pub turn_around : DeckWithin deck → Around around reach s
+    turn_around within =
         record {
-          deck_passed = deck;
-          point_within = rw (moved, read) (around_within ready.place_within (offset_within deck));
+          point_within = rw (moved, read) (around_within ready.place_within within.offset);
           reach_allowed = rw reached (reach_allowed file file_passed);
           step_few = step_few file file_passed ready.turn.step;
         }
 
-    pub turn_kept : {list : Kept} → list ≡ list_at array d → KeptOver (deck_at file b) (step_box around reach s) array list
+    pub turn_kept : {list : Kept} → list ≡ list_at array d → KeptOver deck (step_box around reach s) array list
     turn_kept l =
         rw (l, moved, read, reached, is)
         (over_inner (ready.sifted.lists d ready.turn.deck) (in_search file file_passed ready.turn.deck ready.place_within ready.turn.step))
 
-    pub turn_found : {hit : Hit} → hit ≡ deck_turn (deck_at file b) around reach s → hit ≡ turn (shown_by file p) s d
-    turn_found e = turn_shown file ready.turn.deck is p read moved reached s e
+    pub turn_found : {hit : Option Hit} → hit ≡ deck_turn deck around reach s → hit ≡ turn (shown_by file p) s d
+    turn_found e = turn_shown file d is p read moved reached s e
 
 pub ruleset turns = (turn_room, turn_deck, turn_around, turn_kept)
 
 -- ---- `next_passing`
-pub passing_kept : {file : List ℕ} {table : List ℤ} {p : Vec2} {c : Candidate} {array : List ℕ} {b : Blocks} {q : Vec2} {list : Kept}
-    → TurnReady file table p c.deck c.step array → CandidateIn file c → b ≡ blocks_at file c.deck → q ≡ sample_on (decode file) p c → list ≡ list_at array c.deck
-    → KeptAt (deck_at file b) array list q
+pub passing_kept : {file : List ℕ} {table : List ℤ} {p : Vec2} {c : Candidate} {array : List ℕ} {deck : Deck} {q : Vec2} {list : Kept}
+    → TurnReady file table p c.deck c.step array → CandidateIn file c → deck ≡ deck_of (decode file) c.deck → q ≡ sample_on (decode file) p c → list ≡ list_at array c.deck
+    → KeptAt deck array list q
 unfolding sample_on
 passing_kept {file} {c = c} ready on is at l =
     let turn = ready.turn in
-    rw (l, at, is, deck_is file turn.deck refl)
+    rw (l, at, is)
     (over_at (ready.sifted.lists c.deck turn.deck) (sample_in_search file ready.file_ready.file_passed turn.deck ready.place_within turn.step c.sample))
 
 pub ruleset nexts = (turn_room, turn_deck, passing_kept)

@@ -14,13 +14,12 @@ use Rattle.geometry.specs.declared.Vec2.{Vec2}
 use Rattle.geometry.specs.Plane.{sub_of}
 use Rattle.boxes.specs.declared.BoundingBox.{BoundingBox}
 use Rattle.boxes.specs.StepBox.{step_box}
-use Rattle.ship.specs.declared.Blocks.{Blocks}
-use Rattle.ship.specs.Layout.{decks_in, blocks_at}
-use Rattle.ship.specs.Model.{Deck}
-use Rattle.ship.specs.Decode.{deck_at, decode}
-use Rattle.ship.specs.Questions.{DeckOfPassed}
-use Rattle.ship.proofs.Facts.{sound, decks_few}
-use Rattle.ship.proofs.ModelFacts.{polygons_length, offset_within, steps_in_lem}
+use Rattle.ship.specs.Layout.{decks_in}
+use Rattle.ship.specs.Model.{Deck, deck_of}
+use Rattle.ship.specs.Decode.{decode}
+use Rattle.ship.specs.Within.{DeckWithin}
+use Rattle.ship.proofs.Facts.{decks_few}
+use Rattle.ship.proofs.ModelFacts.{deck_of_within, steps_in_lem}
 use Rattle.keeping.specs.declared.Kept.{Kept}
 use Rattle.keeping.specs.Lists.{list_size, lists_size, list_at, with_list, every_polygon, ListsRoom}
 use Rattle.keeping.proofs.ListLaws.{with_long, behind_lists, list_here, list_before}
@@ -28,7 +27,6 @@ use Rattle.keeping.proofs.Growing.{list_kept, others_kept}
 use Rattle.sifting.specs.Sifted.{KeptOver, SiftedInto, Around}
 use Rattle.sifting.proofs.Turns.{over_every}
 use Rattle.walking.specs.Lists.{search_box, Sifted, ListsReady, DeckList, ListsBelow, DeckListed}
-use Rattle.walking.proofs.ShownLaws.{deck_passed}
 use Rattle.walking.proofs.Reaching.{reach_allowed, around_within}
 
 -- ---- a list over a box, in an array that has its numbers as they stood
@@ -60,7 +58,7 @@ module _ {file : List ℕ} {p : Vec2} {array : List ℕ} {at d : ℕ} (b : Lists
         let start = ap (λ (k : Kept). k.start) is in
         record {
           kept =
-              subst (λ (k : Kept). KeptOver (deck_at file (blocks_at file e)) (search_box file p e) (with_list array' d list) k) (sym is)
+              subst (λ (k : Kept). KeptOver (deck_of (decode file) e) (search_box file p e) (with_list array' d list) k) (sym is)
               (over_kept array (with_list array' d list) (list_at array e)
               (λ j h'. number_same ((list_at array e).start + j) (old.numbers j h').0 ∙ l.same ((list_at array e).start + j) (old.numbers j h').1)
               (omega (arith, old.kept.list.inside, l.long, with_long array' d list)) old.kept);
@@ -77,7 +75,7 @@ module _ {file : List ℕ} {p : Vec2} {array : List ℕ} {at d : ℕ} (b : Lists
         let start = ap (λ (k : Kept). k.start) is in
         record {
           kept =
-              subst (λ (k : Kept). KeptOver (deck_at file (blocks_at file d)) (search_box file p d) (with_list array' d list) k) (sym is)
+              subst (λ (k : Kept). KeptOver (deck_of (decode file) d) (search_box file p d) (with_list array' d list) k) (sym is)
               (over_kept array' (with_list array' d list) list (λ j h. number_same (list.start + j) (omega (arith, l.placed j h, b.past)))
               (omega (arith, l.over.list.inside, with_long array' d list)) l.over);
           numbers =
@@ -94,8 +92,7 @@ module _ {file : List ℕ} {p : Vec2} {array : List ℕ} {at d : ℕ} (b : Lists
 
     pub list_rest : list.rest < 2 ^ 31
     list_rest =
-        omega
-        (arith, l.over.list.there, polygons_length file (blocks_at file d), (sound (deck_passed b.ready.file_passed there)).few_polygons)
+        omega (arith, l.over.list.there, (deck_of_within file d b.ready.file_passed there).few_polygons)
 
     pub next_fits : Fits w64 (at + list.count)
     next_fits = record { fits = omega (arith, l.inside, b.ready.room.few) }
@@ -133,7 +130,7 @@ module _ {file : List ℕ} {p : Vec2} {array : List ℕ} {at d : ℕ} (b : Lists
   shut_list is =
       rw is
       (record {
-        over = over_every (deck_at file (blocks_at file d)) (search_box file p d) array;
+        over = over_every (deck_of (decode file) d) (search_box file p d) array;
         placed = λ j h. let no_number : ⊥ = omega arith in absurd no_number;
         inside = omega (arith, b.inside);
         long = refl;
@@ -141,17 +138,16 @@ module _ {file : List ℕ} {p : Vec2} {array : List ℕ} {at d : ℕ} (b : Lists
       })
 
   -- ---- `reached_on`
-  module _ {k : Blocks} {offset around : Vec2} {reach : Float} {steps : ℕ} (is : k ≡ blocks_at file d) (read : offset ≡ (deck_at file k).offset)
+  module _ {deck : Deck} {offset around : Vec2} {reach : Float} {steps : ℕ} (is : deck ≡ deck_of (decode file) d) (read : offset ≡ deck.offset)
       (moved : around ≡ sub_of p offset) (reached : reach ≡ (decode file).reach) (stepped : steps ≡ (decode file).steps) where
     box_is : step_box around reach (steps - 1) ≡ search_box file p d
     unfolding search_box
     box_is = rw (moved, read, reached, stepped, is, steps_in_lem file)
 
-    pub deck_around : 1 ≤ steps → steps ≤ 16 → DeckOfPassed file k → Around file k around reach (steps - 1)
-    deck_around some few deck =
+    pub deck_around : 1 ≤ steps → steps ≤ 16 → DeckWithin deck → Around around reach (steps - 1)
+    deck_around some few within =
         record {
-          deck_passed = deck;
-          point_within = rw (moved, read) (around_within b.ready.place_within (offset_within deck));
+          point_within = rw (moved, read) (around_within b.ready.place_within within.offset);
           reach_allowed = rw reached (reach_allowed file b.ready.file_passed);
           step_few = omega arith;
         }
@@ -159,7 +155,7 @@ module _ {file : List ℕ} {p : Vec2} {array : List ℕ} {at d : ℕ} (b : Lists
     pub deck_place : at ≤ length array
     deck_place = b.inside
 
-    pub deck_listed : {array' : List ℕ} {list : Kept} → SiftedInto (deck_at file k) (step_box around reach (steps - 1)) at array array' list → DeckListed file p d at array array' list
+    pub deck_listed : {array' : List ℕ} {list : Kept} → SiftedInto deck (step_box around reach (steps - 1)) at array array' list → DeckListed file p d at array array' list
     deck_listed sifted =
         record {
           over = rw (← box_is, ← is) sifted.kept_over;

@@ -10,10 +10,8 @@ use mir.Val.{Fits}
 use lib.IntN.{ℤ}
 use lib.ListN.{length}
 use Rattle.words.proofs.Collecting.{collect_yes, collect_no, collect_none, sum_yes, sum_no, sum_none}
-use Rattle.answers.specs.declared.Check.TheVariants.{Passed}
 use Rattle.hits.specs.declared.Candidate.{Candidate}
 use Rattle.hits.specs.declared.Hit.{Hit}
-use Rattle.hits.specs.declared.Hit.TheVariants.{At, Missed}
 use Rattle.hits.specs.Candidates.{candidate}
 use Rattle.hits.specs.Hits.{tried_of}
 use Rattle.ship.specs.Layout.{decks_in, steps_in}
@@ -30,13 +28,14 @@ use Rattle.walking.specs.Sees.{shown_by, seen_by, FileReady, CandidateIn}
 use Rattle.walking.specs.Lists.{WalkReady, TurnReady}
 use Rattle.walking.specs.Walk.{passing_after, candidates_after, tried_after, Walked, WalkedFrom, WalkedStep, WalkedAfter}
 use Rattle.walking.proofs.ShownLaws.{polygons_shown, step_few}
+use Rattle.std.specs.Prelude.{Option, Some, None, Ok}
 
 -- ---- what a walk is given
 module _ {file blocked : List ℕ} {table : List ℤ} {seat : Seat} {array : List ℕ} (ready : WalkReady file blocked table seat array) where
   pub walk_file : FileReady file table
   walk_file = ready.search_ready.file_ready
 
-  pub walk_passed : first_no file ≡ Passed
+  pub walk_passed : first_no file ≡ Ok tt
   walk_passed = walk_file.file_passed
 
   pub walk_blocked : length blocked ≡ 32
@@ -90,7 +89,7 @@ module _ {file blocked : List ℕ} {seat : Seat} {s d tried n e : ℕ} (h : Turn
           few = omega (arith, h.few);
         }
 
-    module _ {hit : Hit} (opened : r ≡ true) (turned : hit ≡ turn (shown_by file seat.place) s e) where
+    module _ {hit : Option Hit} (opened : r ≡ true) (turned : hit ≡ turn (shown_by file seat.place) s e) where
       here : tried_of s hit ≡ turn_tried (shown_by file seat.place) s e
       here = ap (tried_of s) turned
 
@@ -105,7 +104,7 @@ module _ {file blocked : List ℕ} {seat : Seat} {s d tried n e : ℕ} (h : Turn
           ∙ ap (λ (m : ℕ). tried + m) (sum_yes (seen_by file blocked seat).opens (turn_tried (shown_by file seat.place) s) e (decks_in file) (omega arith) (sym asked ∙ opened) ∙ rw here)
           ∙ sym (add_assoc tried (tried_of s hit) (tried_from (seen_by file blocked seat) s (e + 1) (decks_in file - (e + 1))))
 
-      module _ (passed : first_no file ≡ Passed) (step : s < steps_in file) where
+      module _ (passed : first_no file ≡ Ok tt) (step : s < steps_in file) where
         ring_small : tried_of s hit ≤ 151
         ring_small = omega (arith, here, turn_tried_bound (seen_by file blocked seat) s e, step_few file passed step)
 
@@ -116,7 +115,7 @@ module _ {file blocked : List ℕ} {seat : Seat} {s d tried n e : ℕ} (h : Turn
           pub tries_fit : n ≤ 256 → Fits w64 (tried + t)
           tries_fit few = record { fits = omega (arith, ring_small, h.few) }
 
-          pub turning_missed : hit ≡ Missed → Turning file blocked seat s d (tried + t) (e + 1)
+          pub turning_missed : hit ≡ None → Turning file blocked seat s d (tried + t) (e + 1)
           turning_missed missed =
               record {
                 same = gives ∙ rw (← turned, missed);
@@ -124,23 +123,23 @@ module _ {file blocked : List ℕ} {seat : Seat} {s d tried n e : ℕ} (h : Turn
                 few = omega (arith, ring_small, h.few);
               }
 
-          pub turning_hit : {i k : ℕ} → hit ≡ At i k → WalkedFrom file (seen_by file blocked seat) s d (Reached (candidate s e i k) (tried + t))
+          pub turning_hit : {h : Hit} → hit ≡ Some h → WalkedFrom file (seen_by file blocked seat) s d (Reached (candidate s e h.sample h.polygon) (tried + t))
           unfolding candidates_after tried_after
-          turning_hit {i} {k} at =
+          turning_hit {h = found} at =
               let v = seen_by file blocked seat in
-              let f : turn v.shown s e ≡ At i k = sym turned ∙ at in
+              let f : turn v.shown s e ≡ Some found = sym turned ∙ at in
               let there : e < decks_in file = omega arith in
               let sees = decks_length file in
-              let polygons = polygons_shown file there refl seat.place in
-              from_view file blocked seat s d (Reached (candidate s e i k) (tried + t))
+              let polygons = polygons_shown file e seat.place in
+              from_view file blocked seat s d (Reached (candidate s e found.sample found.polygon) (tried + t))
               (record {
-                left_is = gives ∙ rw (gives_hit v s e i k f, sees);
+                left_is = gives ∙ rw (gives_hit v s e found f, sees);
                 tried_is = tries ∙ rw (took, sees);
                 within =
                     record {
                       turn = record { deck = there; step = step };
-                      sample = hit_sample v s e i k f;
-                      polygon = omega (arith, hit_polygon v s e i k f);
+                      sample = hit_sample v s e found f;
+                      polygon = omega (arith, hit_polygon v s e found f);
                     };
               })
 
@@ -154,8 +153,8 @@ from_first file blocked seat s {next} w =
     subst (λ (n : ℕ). Walked file v (candidates_from v s 0 n) (tried_from v s 0 n) next) e w
 
 -- ---- `after`
-module _ (file blocked : List ℕ) (seat : Seat) (c : Candidate) {hit : Hit} (on : CandidateIn file c) (asked : hit ≡ passing_after (shown_by file seat.place) c) where
-  pub after_missed : {next : Next} → hit ≡ Missed → WalkedFrom file (seen_by file blocked seat) c.step (c.deck + 1) next → WalkedAfter file (seen_by file blocked seat) c next
+module _ (file blocked : List ℕ) (seat : Seat) (c : Candidate) {hit : Option Hit} (on : CandidateIn file c) (asked : hit ≡ passing_after (shown_by file seat.place) c) where
+  pub after_missed : {next : Next} → hit ≡ None → WalkedFrom file (seen_by file blocked seat) c.step (c.deck + 1) next → WalkedAfter file (seen_by file blocked seat) c next
   unfolding candidates_after tried_after passing_after
   after_missed missed w =
       record {
@@ -164,13 +163,13 @@ module _ (file blocked : List ℕ) (seat : Seat) (c : Candidate) {hit : Hit} (on
         within = w.within;
       }
 
-  pub after_hit : {i k : ℕ} → hit ≡ At i k → WalkedAfter file (seen_by file blocked seat) c (Reached (candidate c.step c.deck c.sample k) 0)
+  pub after_hit : {h : Hit} → hit ≡ Some h → WalkedAfter file (seen_by file blocked seat) c (Reached (candidate c.step c.deck c.sample h.polygon) 0)
   unfolding candidates_after tried_after passing_after
-  after_hit {i} {k} at =
+  after_hit {h} at =
       let v = seen_by file blocked seat in
-      let polygons = polygons_shown file on.turn.deck refl seat.place in
-      let p = passing_at v.shown c.step c.deck c.sample (c.polygon + 1) _ i k (sym asked ∙ at) in
-      let rest : c.polygon + 1 + (v.shown.polygons c.deck - (c.polygon + 1)) - (k + 1) ≡ v.shown.polygons c.deck - (k + 1) = omega (arith, on.polygon) in
+      let polygons = polygons_shown file c.deck seat.place in
+      let p = passing_at v.shown c.step c.deck c.sample (c.polygon + 1) _ h (sym asked ∙ at) in
+      let rest : c.polygon + 1 + (v.shown.polygons c.deck - (c.polygon + 1)) - (h.polygon + 1) ≡ v.shown.polygons c.deck - (h.polygon + 1) = omega (arith, on.polygon) in
       record {
         left_is = rw (p.first, rest);
         tried_is = omega arith;
@@ -188,7 +187,7 @@ next_step on = on.turn.step
 pub next_deck : {file : List ℕ} {c : Candidate} → CandidateIn file c → c.deck + 1 ≤ decks_in file
 next_deck on = omega (arith, on.turn.deck)
 
-pub deck_fits : {file : List ℕ} {c : Candidate} → first_no file ≡ Passed → CandidateIn file c → Fits w64 (c.deck + 1)
+pub deck_fits : {file : List ℕ} {c : Candidate} → first_no file ≡ Ok tt → CandidateIn file c → Fits w64 (c.deck + 1)
 deck_fits {file} passed on = record { fits = omega (arith, on.turn.deck, decks_few file passed) }
 
 pub ruleset afters = (walk_passed, passing_ready, after_missed, after_hit, next_step, next_deck, deck_fits)

@@ -1,14 +1,13 @@
 -- What a seat sees of a ship (document 01, sections 5 to 7).
-use Rattle.std.specs.Prelude.{ℕ, ◌*◌, ◌≤◌, ◌<◌, ◌^◌, ◌≡◌, List, length, ℤ}
+use Rattle.std.specs.Prelude.{ℕ, ◌*◌, ◌≤◌, ◌<◌, ◌^◌, ◌≡◌, List, length, ℤ, Ok}
 use Rattle.geometry.specs.declared.Vec2.{Vec2}
 use Rattle.geometry.specs.declared.Height.{Height}
 use Rattle.geometry.specs.Plane.{add_of, sub_of}
 use Rattle.geometry.specs.Bounds.{PointWithin, HeightWithin}
 use Rattle.ring.specs.Table.{directions}
 use Rattle.ring.specs.Sample.{sample_of}
-use Rattle.answers.specs.declared.Check.TheVariants.{Passed}
 use Rattle.hits.specs.declared.Candidate.{Candidate}
-use Rattle.ship.specs.Layout.{decks_in, steps_in, blocks_at}
+use Rattle.ship.specs.Layout.{decks_in, steps_in}
 use Rattle.ship.specs.Questions.{first_no}
 use Rattle.ship.specs.Decode.{decode}
 use Rattle.ship.specs.Model.{Ship, deck_of}
@@ -48,7 +47,7 @@ seen_by file blocked seat = view (decode file) blocked seat
 -- ---- what the functions of a search need
 -- a passed file, and the table
 pub record FileReady (file : List ℕ) (table : List ℤ) : Type 0 where
-  pub file_passed : first_no file ≡ Passed
+  pub file_passed : first_no file ≡ Ok tt
   pub table_is : table ≡ directions
 
 -- a whole blocked set, and a seat that passed question 16
@@ -66,7 +65,7 @@ pub record TurnIn (file : List ℕ) (d s : ℕ) : Type 0 where
 pub record CandidateIn (file : List ℕ) (c : Candidate) : Type 0 where
   pub turn : TurnIn file c.deck c.step
   pub sample : c.sample ≤ 10 * c.step
-  pub polygon : c.polygon < (blocks_at file c.deck).polygons
+  pub polygon : c.polygon < length (deck_of (decode file) c.deck).polygons
 
 -- so that a record's numbers fit, and its floats have bits
 pub record CandidateWithin (c : Candidate) (place : Vec2) (h : Height) : Type 0 where

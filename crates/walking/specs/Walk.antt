@@ -1,5 +1,5 @@
 -- A walk over the candidates of a step, in their order: where it came to, and what is left.
-use Rattle.std.specs.Prelude.{ℕ, ◌+◌, ◌-◌, ◌≡◌, List, [], ◌∷◌, ◌++◌}
+use Rattle.std.specs.Prelude.{ℕ, ◌+◌, ◌-◌, ◌≡◌, List, [], ◌∷◌, ◌++◌, Option}
 use Rattle.hits.specs.declared.Candidate.{Candidate}
 use Rattle.hits.specs.declared.Hit.{Hit}
 use Rattle.hits.specs.Hits.{polygon_hit}
@@ -10,7 +10,7 @@ use Rattle.walking.specs.declared.Next.TheVariants.{Reached, Ended}
 use Rattle.walking.specs.Sees.{CandidateIn}
 
 -- the next polygon after c's that passes at its sample
-unfoldable pub passing_after : Shown → Candidate → Hit
+unfoldable pub passing_after : Shown → Candidate → Option Hit
 passing_after w c =
     polygon_hit (passes_on w c.step c.deck) c.sample (c.polygon + 1) (w.polygons c.deck - (c.polygon + 1))
 

@@ -10,13 +10,15 @@ ghost use Rattle.walking.specs.Sees.{sample_on, shown_by, seen_by, FileReady, Ca
 ghost use Rattle.walking.specs.Lists.{Sifted, WalkReady, TurnReady, ListsReady, ListsBelow, DeckListed};
 ghost use Rattle.walking.specs.Walk.{passing_after, WalkedFrom, WalkedStep, WalkedAfter};
 
+use decks::Deck;
 use geometry::{Height, Vec2};
 use hits::{Candidate, Hit};
 use keeping::{Kept, LISTS_SIZE};
 use survey::Seat;
 
-// Where a walk came to: a candidate, or the end of the step. With it, how many samples the turns on the way took.
-#[derive(Clone, Copy)]
+// Where a walk came to: a candidate, or the end of the step. With it, how many samples the turns on the way took. No `Option`, since the end has
+// that number too.
+#[derive(Clone, Copy, Debug, PartialEq, Eq)]
 pub enum Next {
     Reached(Candidate, usize),
     Ended(usize),
@@ -27,10 +29,10 @@ fn reached_on(file: &[u8], p: Vec2, d: usize, kept: &mut [u32], at: usize) -> Ke
     requires { ListsBelow file.now p kept.old at d × (d < decks_in file.now) }
     ensures { DeckListed file.now p d at kept.old kept.new result }
 {
-    let b = decks::deck_blocks(file, d);
-    let around = geometry::sub(p, decks::offset(file, b));
+    let deck = Deck::of(file, d);
+    let around = p - deck.offset();
     let last = decks::steps(file) - 1;
-    sifting::sift_deck(file, b, around, decks::reach(file), last, kept, at)
+    sifting::sift_deck(&deck, around, decks::reach(file), last, kept, at)
 }
 
 // Deck d's list. A deck that is not open is not gone over.
@@ -52,12 +54,10 @@ pub fn sift_decks(file: &[u8], blocked: &[u8], seat: Seat, kept: &mut [u32])
 {
     let decks = decks::deck_count(file);
     let mut at = LISTS_SIZE;
-    let mut d: usize = 0;
-    'decks: while d < decks {
+    'decks: for d in 0..decks {
         let list = deck_list(file, blocked, seat, d, kept, at);
         keeping::put_list(kept, d, list);
         at += list.count;
-        d += 1;
     }
 }
 
@@ -70,16 +70,15 @@ fn deck_turn(
     s: usize,
     kept: &[u32],
     near: &mut [u32],
-) -> Hit
+) -> Option<Hit>
     requires { TurnReady file.now table.now p d s kept.now }
     ensures { result ≡ turn (shown_by file.now p) s d }
 {
-    let b = decks::deck_blocks(file, d);
-    let around = geometry::sub(p, decks::offset(file, b));
+    let deck = Deck::of(file, d);
+    let around = p - deck.offset();
     let list = keeping::list_of(kept, d);
     sifting::turn(
-        file,
-        b,
+        &deck,
         table,
         around,
         decks::reach(file),
@@ -95,8 +94,7 @@ fn sample_on(file: &[u8], table: &[i32; 2432], p: Vec2, c: Candidate) -> Vec2
     requires { FileReady file.now table.now × CandidateIn file.now c }
     ensures { result ≡ sample_on (decode file.now) p c }
 {
-    let b = decks::deck_blocks(file, c.deck);
-    let around = geometry::sub(p, decks::offset(file, b));
+    let around = p - Deck::of(file, c.deck).offset();
     ring::sample(table, around, decks::reach(file), c.step, c.sample)
 }
 
@@ -105,28 +103,34 @@ pub fn place_of(file: &[u8], table: &[i32; 2432], p: Vec2, c: Candidate) -> Vec2
     requires { FileReady file.now table.now × CandidateIn file.now c }
     ensures { result ≡ (shown_by file.now p).place c }
 {
-    let b = decks::deck_blocks(file, c.deck);
-    geometry::add(sample_on(file, table, p, c), decks::offset(file, b))
+    sample_on(file, table, p, c) + Deck::of(file, c.deck).offset()
 }
 
 // The height there.
+#[tactic(auto, using(crate::proofs::ShownLaws::shows))]
 pub fn height_of(file: &[u8], table: &[i32; 2432], p: Vec2, c: Candidate) -> Height
     requires { FileReady file.now table.now × CandidateIn file.now c }
     ensures { result ≡ (shown_by file.now p).height c }
 {
-    let b = decks::deck_blocks(file, c.deck);
-    search::height_at(file, b, c.polygon, place_of(file, table, p, c))
+    let deck = Deck::of(file, c.deck);
+    search::height_at(&deck, c.polygon, place_of(file, table, p, c))
 }
 
 // The next polygon after c's that passes at its sample.
-fn next_passing(file: &[u8], table: &[i32; 2432], p: Vec2, c: Candidate, kept: &[u32]) -> Hit
+fn next_passing(
+    file: &[u8],
+    table: &[i32; 2432],
+    p: Vec2,
+    c: Candidate,
+    kept: &[u32],
+) -> Option<Hit>
     requires { TurnReady file.now table.now p c.deck c.step kept.now × CandidateIn file.now c }
     ensures { result ≡ passing_after (shown_by file.now p) c }
 {
-    let b = decks::deck_blocks(file, c.deck);
+    let deck = Deck::of(file, c.deck);
     let q = sample_on(file, table, p, c);
     let list = keeping::list_of(kept, c.deck);
-    keeping::next_hit(file, b, q, c.sample, c.polygon + 1, kept, list)
+    keeping::next_hit(&deck, q, c.sample, c.polygon + 1, kept, list)
 }
 
 // The first candidate of step s on the decks from d on.
@@ -147,22 +151,20 @@ fn turns_from(
     let decks = decks::deck_count(file);
     let choice = seat.choice;
     let mut tried: usize = 0;
-    let mut e = d;
-    'decks: while e < decks {
-        let deck = e;
-        e += 1;
-        if survey::is_open(blocked, choice, deck) {
-            let hit = deck_turn(file, table, seat.place, deck, s, kept, near);
-            tried += hits::tried(s, hit);
-            if let Hit::At(sample, polygon) = hit {
-                let c = Candidate {
-                    step: s,
-                    deck,
-                    sample,
-                    polygon,
-                };
-                return Next::Reached(c, tried);
-            }
+    'decks: for deck in d..decks {
+        if !survey::is_open(blocked, choice, deck) {
+            continue;
+        }
+        let hit = deck_turn(file, table, seat.place, deck, s, kept, near);
+        tried += hits::tried(s, hit);
+        if let Some(Hit { sample, polygon }) = hit {
+            let c = Candidate {
+                step: s,
+                deck,
+                sample,
+                polygon,
+            };
+            return Next::Reached(c, tried);
         }
     }
     Next::Ended(tried)
@@ -198,15 +200,13 @@ pub fn after(
     ensures { WalkedAfter file.now (seen_by file.now blocked.now seat) c result }
 {
     match next_passing(file, table, seat.place, c, kept) {
-        Hit::At(_, polygon) => {
+        Some(hit) => {
             let next = Candidate {
-                step: c.step,
-                deck: c.deck,
-                sample: c.sample,
-                polygon,
+                polygon: hit.polygon,
+                ..c
             };
             Next::Reached(next, 0)
         }
-        Hit::Missed => turns_from(file, blocked, table, seat, c.step, c.deck + 1, kept, near),
+        None => turns_from(file, blocked, table, seat, c.step, c.deck + 1, kept, near),
     }
 }

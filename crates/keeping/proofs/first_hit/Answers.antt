@@ -14,8 +14,8 @@ samples-init c = search (turns, rules)
 pub polygons-init : goal.polygons-init
 polygons-init c = search (turns, rules)
 
-pub sought-k-requires : goal.sought-k-requires
-sought-k-requires c = search (turns, rules)
+pub sought-polygon-requires : goal.sought-polygon-requires
+sought-polygon-requires c = search (turns, rules)
 
 pub point_in_polygon-requires : goal.point_in_polygon-requires
 point_in_polygon-requires c = search (turns, rules)

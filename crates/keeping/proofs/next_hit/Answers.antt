@@ -8,8 +8,8 @@ sought_count-count-requires c = search (nexts, rules)
 pub polygons-init : goal.polygons-init
 polygons-init c = search (nexts, rules)
 
-pub sought-next-requires : goal.sought-next-requires
-sought-next-requires c = search (nexts, rules)
+pub sought-polygon-requires : goal.sought-polygon-requires
+sought-polygon-requires c = search (nexts, rules)
 
 pub point_in_polygon-requires : goal.point_in_polygon-requires
 point_in_polygon-requires c = search (nexts, rules)
@@ -17,8 +17,8 @@ point_in_polygon-requires c = search (nexts, rules)
 pub returns-then-point_in_polygon : goal.returns-then-point_in_polygon
 returns-then-point_in_polygon c = search (nexts, rules)
 
-pub polygons-preserved-else-point_in_polygon : goal.polygons-preserved-else-point_in_polygon
-polygons-preserved-else-point_in_polygon c = search (nexts, rules)
+pub polygons-preserved-then-polygon-k : goal.polygons-preserved-then-polygon-k
+polygons-preserved-then-polygon-k c = search (nexts, rules)
 
 pub polygons-preserved : goal.polygons-preserved
 polygons-preserved c = search (nexts, rules)

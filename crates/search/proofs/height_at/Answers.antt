@@ -2,8 +2,8 @@ use borrow.Author.Rules.{rules}
 use Rattle.search.proofs.HeightLoop.{heights}
 use Rattle.search.proofs.height_at.Goals as goal
 
-pub returns-then-b-eq0 : goal.returns-then-b-eq0
-returns-then-b-eq0 c = search (heights, rules)
+pub returns-then-height_count-eq0 : goal.returns-then-height_count-eq0
+returns-then-height_count-eq0 c = search (heights, rules)
 
 pub edges-init : goal.edges-init
 edges-init c = search (heights, rules)

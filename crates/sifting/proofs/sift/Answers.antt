@@ -1,6 +1,5 @@
-use mathlib.Core.Path.{refl}
 use borrow.Author.Rules.{rules}
-use Rattle.sifting.proofs.SiftLoop.{sifting_kept, sifting}
+use Rattle.sifting.proofs.SiftLoop.{sifting}
 use Rattle.sifting.proofs.sift.Goals as goal
 
 pub sought_count-looked_at-requires : goal.sought_count-looked_at-requires
@@ -15,16 +14,14 @@ sought-k-requires c = search (sifting, rules)
 pub may_pass-requires : goal.may_pass-requires
 may_pass-requires c = search (sifting, rules)
 
-pub put-requires : goal.put-requires
-put-requires c = search (sifting, rules)
+pub overflow_cast-into : goal.overflow_cast-into
+overflow_cast-into c = search (sifting, rules)
 
-pub polygons-preserved-then-may_pass : goal.polygons-preserved-then-may_pass
-polygons-preserved-then-may_pass c =
-    let loop = c.polygons in (
-      search rules,
-      sifting_kept loop.invariant.1 c.sought_count-looked_at.ensures c.polygons-test.true
-          c.sought-k.ensures refl c.is_full.ensures c.if-is_full.false c.put.ensures,
-    )
+pub bounds-into-at : goal.bounds-into-at
+bounds-into-at c = search (sifting, rules)
+
+pub polygons-preserved-then-not-may_pass : goal.polygons-preserved-then-not-may_pass
+polygons-preserved-then-not-may_pass c = search (sifting, rules)
 
 pub polygons-preserved : goal.polygons-preserved
 polygons-preserved c = search (sifting, rules)

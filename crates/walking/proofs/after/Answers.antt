@@ -6,8 +6,8 @@ use Rattle.walking.proofs.after.Goals as goal
 pub overflow_add-c : goal.overflow_add-c
 overflow_add-c c = search (afters, rules)
 
-pub returns-in-At : goal.returns-in-At
-returns-in-At c = search (afters, rules)
+pub returns-in-Some : goal.returns-in-Some
+returns-in-Some c = search (afters, rules)
 
-pub returns-in-Missed : goal.returns-in-Missed
-returns-in-Missed c = search (afters, rules)
+pub returns-in-None : goal.returns-in-None
+returns-in-None c = search (afters, rules)

@@ -8,11 +8,11 @@ tried-tried-requires c = search (turning, rules)
 pub overflow_add-tried : goal.overflow_add-tried
 overflow_add-tried c = search (turning, rules)
 
-pub returns-in-At : goal.returns-in-At
-returns-in-At c = search (turning, rules)
+pub returns-in-Some : goal.returns-in-Some
+returns-in-Some c = search (turning, rules)
 
-pub decks-preserved-in_default : goal.decks-preserved-in_default
-decks-preserved-in_default c = (search rules, (search rules, search (turning, rules)))
+pub decks-preserved-then-not-is_open : goal.decks-preserved-then-not-is_open
+decks-preserved-then-not-is_open c = search (turning, rules)
 
 pub decks-preserved : goal.decks-preserved
 decks-preserved c = search (turning, rules)

@@ -1,5 +1,4 @@
 -- `turns_from` meets its contract. The loop's invariant: the decks below e gave no candidate.
-use Prim.Native.Nat.{◌-◌, ◌≤◌}
 use mathlib.Core.Path.{◌≡◌}
 use lib.ListN.{length}
 use Rattle.walking.proofs.Walks.{Turning}
@@ -7,7 +6,4 @@ use Rattle.walking.proofs.turns_from.Given as goal
 
 abbrev pub invariant-decks : goal.invariant-decks
 invariant-decks l =
-    (l.e ≤ l.decks) × ((length l.near ≡ length l.initial.near) × Turning l.file l.blocked l.seat l.s l.d l.tried l.e)
-
-abbrev pub decreases-decks : goal.decreases-decks
-decreases-decks l = l.decks - l.e
+    (length l.near ≡ length l.initial.near) × Turning l.file l.blocked l.seat l.s l.d l.tried l.deck

@@ -1,7 +1,0 @@
--- `height_of` meets its contract.
-use borrow.Author.Rules.{rules}
-use Rattle.walking.proofs.ShownLaws.{shows}
-use Rattle.walking.proofs.height_of.Goals as goal
-
-pub returns : goal.returns
-returns c = search (shows, rules)
