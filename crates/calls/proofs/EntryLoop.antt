@@ -12,11 +12,12 @@ use Rattle.geometry.specs.Bounds.{PointWithin}
 use Rattle.geometry.proofs.Bounds.{not_nan, widen}
 use Rattle.words.specs.Bytes.{bytes4, joined, words_of, splice}
 use Rattle.words.proofs.Writing.{Rest, rest_all, rest_more_front, rest_front, length_joined}
-use Rattle.answers.specs.declared.Answer.TheVariants.{Refused, Wrote}
 use Rattle.answers.specs.Questions.{question20}
 use Rattle.answers.specs.Replies.{Replied}
 use Rattle.answers.proofs.Asking.{said_yes, q20_fits}
 use Rattle.answers.proofs.Replying.{replied_short, replied_written, room_short, room_fits}
+use Rattle.std.specs.Prelude.{Ok, Err}
+use Rattle.answers.specs.declared.Refusal.TheVariants.{NoRoom}
 use Rattle.hits.specs.declared.Candidate.{Candidate}
 use Rattle.ship.specs.Packed.{packed_of}
 use Rattle.survey.specs.declared.Seat.{Seat}
@@ -92,14 +93,14 @@ module _ (file blocked : List ℕ) (seat : Seat) (s : ℕ) {count : ℕ} (counte
   step_long : length (step_reply (seen_by file blocked seat) s).bytes ≡ entry_size * count
   step_long = length_candidates (shown_by file seat.place) (candidates (seen_by file blocked seat) s) ∙ rw counted
 
-  pub step_refused : not fits ≡ true → Replied (step_reply (seen_by file blocked seat) s) out out (Refused 20)
+  pub step_refused : not fits ≡ true → Replied (step_reply (seen_by file blocked seat) s) out out (Err NoRoom)
   step_refused no_room = replied_short refl refl (room_short (step_reply (seen_by file blocked seat) s) out entry_size count step_long room no_room)
 
   module _ (has_room : not fits ≡ false) where
     pub step_fits : StepFits (seen_by file blocked seat) s out
     step_fits = rw (← counted) (q20_fits (entry_size * count) (length out) (said_yes room has_room))
 
-    pub step_written : {out' : List ℕ} → StepPut (seen_by file blocked seat) s out out' → Replied (step_reply (seen_by file blocked seat) s) out out' (Wrote count)
+    pub step_written : {out' : List ℕ} → StepPut (seen_by file blocked seat) s out out' → Replied (step_reply (seen_by file blocked seat) s) out out' (Ok count)
     step_written o =
         replied_written refl refl (room_fits (step_reply (seen_by file blocked seat) s) out entry_size count step_long room has_room) counted
         (o ∙ rw (length_candidates (shown_by file seat.place) (candidates (seen_by file blocked seat) s)))

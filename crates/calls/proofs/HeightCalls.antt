@@ -14,21 +14,19 @@ use Rattle.geometry.specs.declared.Height.TheVariants.{Known, None}
 use Rattle.geometry.specs.Bounds.{PointWithin, HeightWithin}
 use Rattle.geometry.proofs.Bounds.{widen}
 use Rattle.words.specs.Bytes.{all_ones, bytes4, joined, splice, put_f32}
-use Rattle.answers.specs.declared.Check.{Check}
-use Rattle.answers.specs.declared.Check.TheVariants.{Passed}
-use Rattle.answers.specs.Checks.{ask, after}
+use Rattle.answers.specs.Checks.{ask, after, Check}
 use Rattle.answers.proofs.Asking.{asking, asked_yes, both_passed}
 use Rattle.answers.proofs.Replying.{replied_refused, replied_short, replied_written, replied_none}
-use Rattle.ship.specs.declared.Blocks.{Blocks}
-use Rattle.ship.specs.Layout.{decks_in, blocks_at}
-use Rattle.ship.specs.Decode.{deck_at, decode}
+use Rattle.std.specs.Prelude.{Ok}
+use Rattle.answers.specs.declared.Refusal.TheVariants.{CallFloatOutOfRange, NoSuchDeck, NoSuchPolygon}
+use Rattle.ship.specs.Layout.{decks_in}
+use Rattle.ship.specs.Decode.{decode}
 use Rattle.ship.specs.Model.{Deck, deck_of}
 use Rattle.ship.specs.Packed.{packed_deck, packed_polygon}
-use Rattle.ship.specs.Questions.{first_no, DeckOfPassed}
-use Rattle.ship.proofs.ModelFacts.{polygons_length}
+use Rattle.ship.specs.Questions.{first_no}
+use Rattle.ship.specs.Within.{DeckWithin}
 use Rattle.search.specs.OnDeck.{height_on}
 use Rattle.search.proofs.HeightBound.{height_within}
-use Rattle.walking.proofs.ShownLaws.{deck_is}
 use Rattle.placing.proofs.SeatRecords.{height_number}
 use Rattle.calls.specs.Closest.{question16}
 use Rattle.calls.specs.HeightCall.{height_call, height_entry, question17_height, question18, height_check}
@@ -36,7 +34,7 @@ use Rattle.calls.proofs.Queries.{size_of_place}
 
 -- ---- `height_check`
 pub height_asked_is : (file : List ℕ) (p : Vec2) (polygon : ℕ) {v : Check}
-    → v ≡ after (first_no file) (ask (question16 p) 16 (ask (question17_height file polygon) 17 (ask (question18 file polygon) 18 Passed))) → v ≡ height_check file p polygon
+    → v ≡ after (first_no file) (ask (question16 p) CallFloatOutOfRange (ask (question17_height file polygon) NoSuchDeck (ask (question18 file polygon) NoSuchPolygon (Ok tt)))) → v ≡ height_check file p polygon
 unfolding height_check
 height_asked_is file p polygon e = e
 
@@ -62,21 +60,20 @@ module _ (file : List ℕ) {polygon : ℕ} (named : polygon ≡ all_ones → ⊥
   pub deck_yes : {decks : ℕ} → decks ≡ decks_in file → d < decks → question17_height file polygon ≡ true
   deck_yes all l = deck_test ∙ lt-ltb (packed_deck polygon) (decks_in file) (omega arith)
 
-  module _ {b : Blocks} (there : d < decks_in file) (is : b ≡ blocks_at file d) where
-    deck_of_polygon : deck_of (decode file) (packed_deck polygon) ≡ deck_at file b
-    deck_of_polygon = rw (← of_deck) (deck_is file there is)
+  module _ {deck : Deck} (is : deck ≡ deck_of (decode file) d) where
+    deck_of_polygon : deck_of (decode file) (packed_deck polygon) ≡ deck
+    deck_of_polygon = rw (← of_deck) (sym is)
 
-    polygon_test : question18 file polygon ≡ ltb (packed_polygon polygon) b.polygons
+    polygon_test : question18 file polygon ≡ ltb (packed_polygon polygon) (length deck.polygons)
     unfolding question18
-    polygon_test =
-        rw (ne_eqb _ _ named) (ap (λ (deck : Deck). ltb (packed_polygon polygon) (length deck.polygons)) deck_of_polygon ∙ ap (ltb (packed_polygon polygon)) (polygons_length file b))
+    polygon_test = rw (ne_eqb _ _ named) (ap (λ (named : Deck). ltb (packed_polygon polygon) (length named.polygons)) deck_of_polygon)
 
-  module _ {b : Blocks} {decks k : ℕ} (all : decks ≡ decks_in file) (l : d < decks) (is : b ≡ blocks_at file d) (numbered : k ≡ packed_polygon polygon) where
-    pub polygon_no : b.polygons ≤ k → question18 file polygon ≡ false
-    polygon_no m = polygon_test (omega arith) is ∙ le-ltb (packed_polygon polygon) b.polygons (omega arith)
+    module _ {n k : ℕ} (count : n ≡ length deck.polygons) (numbered : k ≡ packed_polygon polygon) where
+      pub polygon_no : n ≤ k → question18 file polygon ≡ false
+      polygon_no m = polygon_test ∙ le-ltb (packed_polygon polygon) (length deck.polygons) (omega arith)
 
-    pub polygon_yes : k < b.polygons → question18 file polygon ≡ true
-    polygon_yes m = polygon_test (omega arith) is ∙ lt-ltb (packed_polygon polygon) b.polygons (omega arith)
+      pub polygon_yes : k < n → question18 file polygon ≡ true
+      polygon_yes m = polygon_test ∙ lt-ltb (packed_polygon polygon) (length deck.polygons) (omega arith)
 
 pub deck_there : (file : List ℕ) {n d : ℕ} → n ≡ decks_in file → d < n → d < decks_in file
 deck_there file all l = omega arith
@@ -86,41 +83,41 @@ pub ruleset height_asks = (asking, height_asked_is, deck_there, ones_17, ones_18
 -- ---- `height_asked`
 -- what the questions say once they passed
 record HeightYes (file : List ℕ) (p : Vec2) (polygon : ℕ) : Type 0 where
-  pub file_yes : first_no file ≡ Passed
+  pub file_yes : first_no file ≡ Ok tt
   pub place_within : PointWithin 1000000 p
   pub yes_17 : question17_height file polygon ≡ true
   pub yes_18 : question18 file polygon ≡ true
 
-module _ (file : List ℕ) (p : Vec2) (polygon : ℕ) (passed : height_check file p polygon ≡ Passed) where
+module _ (file : List ℕ) (p : Vec2) (polygon : ℕ) (passed : height_check file p polygon ≡ Ok tt) where
   all_yes : HeightYes file p polygon
   unfolding height_check
   all_yes =
       let f = both_passed (first_no file) _ passed in
-      let s = asked_yes (question16 p) 16 _ f.1 in
-      let d = asked_yes (question17_height file polygon) 17 _ s.1 in
-      let k = asked_yes (question18 file polygon) 18 Passed d.1 in
+      let s = asked_yes (question16 p) CallFloatOutOfRange _ f.1 in
+      let d = asked_yes (question17_height file polygon) NoSuchDeck _ s.1 in
+      let k = asked_yes (question18 file polygon) NoSuchPolygon (Ok tt) d.1 in
       record { file_yes = f.0; place_within = size_of_place p s.0; yes_17 = d.0; yes_18 = k.0 }
 
-  pub passed_file : first_no file ≡ Passed
+  pub passed_file : first_no file ≡ Ok tt
   passed_file = all_yes.file_yes
 
   module _ (named : polygon ≡ all_ones → ⊥) {d : ℕ} (of_deck : d ≡ packed_deck polygon) where
     pub passed_deck : d < decks_in file
     passed_deck = omega (arith, ltb-true (packed_deck polygon) (decks_in file) (sym (deck_test file named of_deck) ∙ all_yes.yes_17))
 
-    module _ {b : Blocks} {k : ℕ} (is : b ≡ blocks_at file d) (numbered : k ≡ packed_polygon polygon) where
-      pub passed_polygon : k < b.polygons
-      passed_polygon = omega (arith, ltb-true (packed_polygon polygon) b.polygons (sym (polygon_test file named of_deck passed_deck is) ∙ all_yes.yes_18))
+    module _ {deck : Deck} {k : ℕ} (is : deck ≡ deck_of (decode file) d) (numbered : k ≡ packed_polygon polygon) where
+      pub passed_polygon : k < length deck.polygons
+      passed_polygon = omega (arith, ltb-true (packed_polygon polygon) (length deck.polygons) (sym (polygon_test file named of_deck is) ∙ all_yes.yes_18))
 
-      module _ {h : Height} (e : h ≡ height_on (deck_at file b) k p) where
+      module _ {h : Height} (e : h ≡ height_on deck k p) where
         pub height_is : h ≡ height_call file p polygon
         unfolding height_call
-        height_is = e ∙ sym (rw (ne_eqb _ _ named, deck_of_polygon file named of_deck passed_deck is, ← numbered))
+        height_is = e ∙ sym (rw (ne_eqb _ _ named, deck_of_polygon file named of_deck is, ← numbered))
 
-        pub height_small : DeckOfPassed file b → HeightWithin (2 ^ 121) h
-        height_small on =
+        pub height_small : DeckWithin deck → HeightWithin (2 ^ 121) h
+        height_small within =
             let w = all_yes.place_within in
-            subst (HeightWithin (2 ^ 121)) (sym e) (height_within on k p (record { x = widen (omega arith) w.x; y = widen (omega arith) w.y }))
+            subst (HeightWithin (2 ^ 121)) (sym e) (height_within within k p (record { x = widen (omega arith) w.x; y = widen (omega arith) w.y }))
 
 pub ones_none : (file : List ℕ) (p : Vec2) {polygon : ℕ} → polygon ≡ all_ones → None ≡ height_call file p polygon
 unfolding height_call
@@ -129,7 +126,7 @@ ones_none file p ones = rw (eq-eqb _ _ ones)
 pub ruleset heights_asked = (passed_file, passed_deck, passed_polygon, height_is, height_small, ones_none)
 
 -- ---- `height`
-pub height_passed : (file : List ℕ) (p : Vec2) (polygon : ℕ) {r : Check} → r ≡ height_check file p polygon → r ≡ Passed → height_check file p polygon ≡ Passed
+pub height_passed : (file : List ℕ) (p : Vec2) (polygon : ℕ) {r : Check} → r ≡ height_check file p polygon → r ≡ Ok tt → height_check file p polygon ≡ Ok tt
 height_passed file p polygon asked e = sym asked ∙ e
 
 module _ (file : List ℕ) (p : Vec2) (polygon : ℕ) {h : Height} (is : h ≡ height_call file p polygon) where

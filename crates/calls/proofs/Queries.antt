@@ -9,11 +9,11 @@ use Rattle.geometry.specs.Bounds.{PointWithin}
 use Rattle.ring.specs.Table.{directions}
 use Rattle.words.proofs.TableRows.{both}
 use Rattle.words.proofs.Collecting.{holds}
-use Rattle.answers.specs.declared.Check.{Check}
-use Rattle.answers.specs.declared.Check.TheVariants.{Passed}
-use Rattle.answers.specs.Checks.{ask, after}
+use Rattle.answers.specs.Checks.{ask, after, Check}
 use Rattle.answers.specs.Questions.{question14, question17}
 use Rattle.answers.proofs.Asking.{asking, asked_yes, both_passed, blocked_32}
+use Rattle.std.specs.Prelude.{Ok}
+use Rattle.answers.specs.declared.Refusal.TheVariants.{WrongLength, CallFloatOutOfRange, NoSuchDeck}
 use Rattle.ship.specs.Layout.{decks_in}
 use Rattle.ship.specs.Floats.{in_size}
 use Rattle.ship.specs.Questions.{first_no}
@@ -45,7 +45,7 @@ size_of_place p h =
 
 -- ---- `query_check`
 pub query_is : (file : List ℕ) (p : Vec2) (deck : ℕ) (blocked : List ℕ) {v : Check}
-    → v ≡ after (first_no file) (ask (question14 blocked) 14 (ask (question16 p) 16 (ask (question17 (decks_in file) deck) 17 Passed))) → v ≡ query_check file p deck blocked
+    → v ≡ after (first_no file) (ask (question14 blocked) WrongLength (ask (question16 p) CallFloatOutOfRange (ask (question17 (decks_in file) deck) NoSuchDeck (Ok tt)))) → v ≡ query_check file p deck blocked
 unfolding query_check
 query_is file p deck blocked e = e
 
@@ -59,8 +59,8 @@ pub asked_is : (p : Vec2) (deck : ℕ) {choice : DeckChoice} → choice ≡ choi
 asked_is p deck e = ap (λ (c : DeckChoice). record { place = p; choice = c; wish = NoWish }) e
 
 -- ---- a passed query
-module _ (file : List ℕ) (p : Vec2) (deck : ℕ) (blocked : List ℕ) {r : Check} (asked : r ≡ query_check file p deck blocked) (passed : r ≡ Passed) where
-  pub query_passed : first_no file ≡ Passed
+module _ (file : List ℕ) (p : Vec2) (deck : ℕ) (blocked : List ℕ) {r : Check} (asked : r ≡ query_check file p deck blocked) (passed : r ≡ Ok tt) where
+  pub query_passed : first_no file ≡ Ok tt
   unfolding query_check
   query_passed = (both_passed (first_no file) _ (sym asked ∙ passed)).0
 
@@ -68,8 +68,8 @@ module _ (file : List ℕ) (p : Vec2) (deck : ℕ) (blocked : List ℕ) {r : Che
   unfolding query_check
   query_ready t e =
       let f = both_passed (first_no file) _ (sym asked ∙ passed) in
-      let b = asked_yes (question14 blocked) 14 _ f.1 in
-      let s = asked_yes (question16 p) 16 _ b.1 in
+      let b = asked_yes (question14 blocked) WrongLength _ f.1 in
+      let s = asked_yes (question16 p) CallFloatOutOfRange _ b.1 in
       record {
         file_ready = record { file_passed = f.0; table_is = t };
         blocked_long = blocked_32 blocked b.0;

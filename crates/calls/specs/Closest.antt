@@ -1,15 +1,13 @@
 -- Document 01, section 5: `get_closest_points_on_layers` and `get_closest_point_on_layers`, their questions and their entries.
-use Rattle.std.specs.Prelude.{ℕ, ◌*◌, ◌≤◌, ◌<◌, ◌≡◌, Bool, ◌&&◌, List, [], ◌∷◌, ◌++◌, length, take, drop, ℤ, Float}
+use Rattle.std.specs.Prelude.{ℕ, ◌*◌, ◌≤◌, ◌<◌, ◌≡◌, Bool, ◌&&◌, List, [], ◌∷◌, ◌++◌, length, take, drop, ℤ, Float, Ok}
 use Rattle.std.specs.Float.{binary32}
 use Rattle.std.specs.Float.Ieee.{to_bits}
 use Rattle.geometry.specs.declared.Vec2.{Vec2}
 use Rattle.words.specs.Bytes.{joined, words_of}
-use Rattle.answers.specs.declared.Check.{Check}
-use Rattle.answers.specs.declared.Check.TheVariants.{Passed}
-use Rattle.answers.specs.Checks.{ask, after}
+use Rattle.answers.specs.Checks.{ask, after, Check}
 use Rattle.answers.specs.Questions.{question14, question17}
-use Rattle.answers.specs.declared.Answer.{Answer}
-use Rattle.answers.specs.Replies.{Reply, reply_of, Replied, RepliedCode}
+use Rattle.answers.specs.Replies.{Reply, reply_of, Replied, RepliedCode, Answer}
+use Rattle.answers.specs.declared.Refusal.TheVariants.{WrongLength, CallFloatOutOfRange, NoSuchDeck}
 use Rattle.hits.specs.declared.Candidate.{Candidate}
 use Rattle.ship.specs.Layout.{decks_in, steps_in}
 use Rattle.ship.specs.Floats.{in_size}
@@ -33,7 +31,7 @@ question16 p = in_size p.x && in_size p.y
 -- the questions of a query before 20
 unfoldable pub query_check : List ℕ → Vec2 → ℕ → List ℕ → Check
 query_check file p deck blocked =
-    after (first_no file) (ask (question14 blocked) 14 (ask (question16 p) 16 (ask (question17 (decks_in file) deck) 17 Passed)))
+    after (first_no file) (ask (question14 blocked) WrongLength (ask (question16 p) CallFloatOutOfRange (ask (question17 (decks_in file) deck) NoSuchDeck (Ok tt))))
 
 -- a call asks as a seat without a wish
 abbrev pub asked_at : Vec2 → ℕ → Seat
@@ -89,7 +87,7 @@ abbrev pub StepCount : View → ℕ → ℕ → Type 0
 StepCount v s count = count ≡ length (candidates v s)
 
 abbrev pub step_reply : View → ℕ → Reply
-step_reply v s = reply_of Passed (candidate_bytes v.shown) (candidates v s)
+step_reply v s = reply_of (Ok tt) (candidate_bytes v.shown) (candidates v s)
 
 -- what a function that writes a step needs of the room, or of the count
 pub record PutReady (file blocked : List ℕ) (table : List ℤ) (seat : Seat) (s : ℕ) (out array : List ℕ) : Type 0 where

@@ -1,15 +1,14 @@
 -- Document 01, section 6: the separate height call, which takes a place and a packed polygon, whose deck it uses.
-use Rattle.std.specs.Prelude.{ℕ, List, [], ◌∷◌, Bool, ◌||◌, cond, eqb, ltb, length, ℤ, Float}
+use Rattle.std.specs.Prelude.{ℕ, List, [], ◌∷◌, Bool, ◌||◌, cond, eqb, ltb, length, ℤ, Float, Ok}
 use Rattle.std.specs.Float.{binary32}
 use Rattle.std.specs.Float.Ieee.{to_bits}
 use Rattle.geometry.specs.declared.Vec2.{Vec2}
 use Rattle.geometry.specs.declared.Height.{Height}
 use Rattle.geometry.specs.declared.Height.TheVariants.{Known, None}
 use Rattle.words.specs.Bytes.{all_ones, bytes4}
-use Rattle.answers.specs.declared.Check.{Check}
-use Rattle.answers.specs.declared.Check.TheVariants.{Passed}
-use Rattle.answers.specs.Checks.{ask, after}
+use Rattle.answers.specs.Checks.{ask, after, Check}
 use Rattle.answers.specs.Replies.{Reply, reply_of, RepliedCode}
+use Rattle.answers.specs.declared.Refusal.TheVariants.{CallFloatOutOfRange, NoSuchDeck, NoSuchPolygon}
 use Rattle.ship.specs.Layout.{decks_in}
 use Rattle.ship.specs.Decode.{decode}
 use Rattle.ship.specs.Model.{deck_of}
@@ -29,7 +28,7 @@ question18 file polygon = eqb polygon all_ones || ltb (packed_polygon polygon) (
 -- the questions of a height call before 20
 unfoldable pub height_check : List ℕ → Vec2 → ℕ → Check
 height_check file p polygon =
-    after (first_no file) (ask (question16 p) 16 (ask (question17_height file polygon) 17 (ask (question18 file polygon) 18 Passed)))
+    after (first_no file) (ask (question16 p) CallFloatOutOfRange (ask (question17_height file polygon) NoSuchDeck (ask (question18 file polygon) NoSuchPolygon (Ok tt))))
 
 -- for all ones there is no height
 unfoldable pub height_call : List ℕ → Vec2 → ℕ → Height

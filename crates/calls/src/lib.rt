@@ -4,17 +4,17 @@
 ghost use Rattle.std.specs.Prelude.{◌≡◌, ◌+◌, ◌*◌, ◌^◌, ◌≤◌, length};
 ghost use Rattle.geometry.specs.Bounds.{PointWithin, HeightWithin};
 ghost use Rattle.words.specs.Bytes.{splice};
-ghost use Rattle.answers.specs.declared.Check.TheVariants.{Passed};
 ghost use Rattle.answers.specs.Replies.{Replied};
 ghost use Rattle.ship.specs.Floats.{in_size};
 ghost use Rattle.walking.specs.Sees.{seen_by};
 ghost use Rattle.calls.specs.Closest.{question16, asked_at, entry_size, entry_bytes, query_check, PointsReplied, PointReplied, StepPut, PutReady, CountReady, StepReplied};
 ghost use Rattle.calls.specs.HeightCall.{height_call, height_check, height_reply};
 
-use answers::{Answer, Check};
+use answers::{Answer, Check, Refusal};
+use decks::Deck;
 use geometry::{Height, Vec2};
 use keeping::{KEPT_SIZE, NEAR_SIZE};
-use survey::{Seat, Wish};
+use survey::{DeckChoice, Seat, Wish};
 use walking::Next;
 
 pub const ENTRY_SIZE: usize = 12;
@@ -36,20 +36,17 @@ pub fn place_in_size(p: Vec2) -> bool
 fn query_check(file: &[u8], p: Vec2, deck: u32, blocked: &[u8]) -> Check
     ensures { result ≡ query_check file.now p deck blocked.now }
 {
-    match ship::first_no(file) {
-        Check::No(number) => return Check::No(number),
-        Check::Passed => {}
-    }
+    ship::first_no(file)?;
     if !answers::blocked_whole(blocked) {
-        return Check::No(14);
+        return Err(Refusal::WrongLength);
     }
     if !place_in_size(p) {
-        return Check::No(16);
+        return Err(Refusal::CallFloatOutOfRange);
     }
     if !answers::deck_there(decks::deck_count(file), deck) {
-        return Check::No(17);
+        return Err(Refusal::NoSuchDeck);
     }
-    Check::Passed
+    Ok(())
 }
 
 // A query searches as a seat without a wish.
@@ -58,7 +55,7 @@ pub fn asked_at(p: Vec2, deck: u32) -> Seat
 {
     Seat {
         place: p,
-        choice: survey::choice_of(deck),
+        choice: DeckChoice::from(deck),
         wish: Wish::NoWish,
     }
 }
@@ -68,7 +65,7 @@ pub fn put_candidate(out: &mut [u8], n: usize, polygon: u32, place: Vec2)
     requires { (entry_size * n + entry_size ≤ length out.old) × PointWithin 3030000 place }
     ensures { out.new ≡ splice out.old (entry_size * n) (entry_bytes polygon place) }
 {
-    let words = [polygon, f32::to_bits(place.x), f32::to_bits(place.y)];
+    let words = [polygon, place.x.to_bits(), place.y.to_bits()];
     words::put_words(out, ENTRY_SIZE * n, &words)
 }
 
@@ -88,6 +85,7 @@ fn put_step(
     let mut near = [0u32; NEAR_SIZE];
     let mut n: usize = 0;
     let mut next = walking::first(file, blocked, table, seat, s, kept, &mut near);
+    // A loop: a walk is lent its arrays at each step, so it is no iterator.
     'candidates: loop {
         match next {
             Next::Ended(_) => return,
@@ -116,10 +114,10 @@ fn put_counted(
     ensures { StepReplied file.now blocked.now seat s out.old out.new result }
 {
     if !answers::room_for(ENTRY_SIZE, count, out.len()) {
-        return Answer::Refused(20);
+        return Err(Refusal::NoRoom);
     }
     put_step(file, blocked, table, seat, s, out, kept);
-    Answer::Wrote(count)
+    Ok(count)
 }
 
 // The candidates of the first step with any. The first search counts them, since question 20 comes before a byte is written.
@@ -132,25 +130,21 @@ pub fn get_closest_points_on_layers(
 ) -> Answer
     ensures { PointsReplied file.now p deck blocked.now out.old out.new result }
 {
-    match query_check(file, p, deck, blocked) {
-        Check::No(number) => return Answer::Refused(number),
-        Check::Passed => {}
-    }
+    query_check(file, p, deck, blocked)?;
     let table = ring::all_directions();
     let mut kept = [0u32; KEPT_SIZE];
     let mut near = [0u32; NEAR_SIZE];
     let seat = asked_at(p, deck);
     let found = placing::place_seat(file, blocked, &table, seat, &mut kept, &mut near);
     if records::unplaced(found) {
-        return Answer::Wrote(0);
+        return Ok(0);
     }
-    let step = found.step as usize;
     put_counted(
         file,
         blocked,
         &table,
         seat,
-        step,
+        found.step as usize,
         found.candidates as usize,
         out,
         &kept,
@@ -167,10 +161,7 @@ pub fn get_closest_point_on_layers(
 ) -> Answer
     ensures { PointReplied file.now p deck blocked.now out.old out.new result }
 {
-    match query_check(file, p, deck, blocked) {
-        Check::No(number) => return Answer::Refused(number),
-        Check::Passed => {}
-    }
+    query_check(file, p, deck, blocked)?;
     let table = ring::all_directions();
     let mut kept = [0u32; KEPT_SIZE];
     let mut near = [0u32; NEAR_SIZE];
@@ -183,69 +174,63 @@ pub fn get_closest_point_on_layers(
         &mut near,
     );
     if records::unplaced(found) {
-        return Answer::Wrote(0);
+        return Ok(0);
     }
     if !answers::room_for(ENTRY_SIZE, 1, out.len()) {
-        return Answer::Refused(20);
+        return Err(Refusal::NoRoom);
     }
     let words = [found.polygon, found.x, found.y];
     words::put_words(out, 0, &words);
-    Answer::Wrote(1)
+    Ok(1)
 }
 
 // Questions 1 to 18 of a place and a packed polygon.
 fn height_check(file: &[u8], p: Vec2, polygon: u32) -> Check
     ensures { result ≡ height_check file.now p polygon }
 {
-    match ship::first_no(file) {
-        Check::No(number) => return Check::No(number),
-        Check::Passed => {}
-    }
+    ship::first_no(file)?;
     if !place_in_size(p) {
-        return Check::No(16);
+        return Err(Refusal::CallFloatOutOfRange);
     }
-    if polygon == 0xFFFF_FFFF {
-        return Check::Passed;
+    if polygon == words::ALL_ONES {
+        return Ok(());
     }
     let d = decks::packed_deck(polygon);
     if d >= decks::deck_count(file) {
-        return Check::No(17);
+        return Err(Refusal::NoSuchDeck);
     }
-    let b = decks::deck_blocks(file, d);
-    if decks::packed_polygon(polygon) >= b.polygons {
-        return Check::No(18);
+    let deck = Deck::of(file, d);
+    if decks::packed_polygon(polygon) >= deck.polygon_count() {
+        return Err(Refusal::NoSuchPolygon);
     }
-    Check::Passed
+    Ok(())
 }
 
 // The height at a place and of a polygon that passed them.
 fn height_asked(file: &[u8], p: Vec2, polygon: u32) -> Height
-    requires { height_check file.now p polygon ≡ Passed }
+    requires { height_check file.now p polygon ≡ Ok tt }
     ensures { (result ≡ height_call file.now p polygon) × HeightWithin (2 ^ 121) result }
 {
-    if polygon == 0xFFFF_FFFF {
+    if polygon == words::ALL_ONES {
         return Height::None;
     }
-    let b = decks::deck_blocks(file, decks::packed_deck(polygon));
-    search::height_at(file, b, decks::packed_polygon(polygon), p)
+    let deck = Deck::of(file, decks::packed_deck(polygon));
+    search::height_at(&deck, decks::packed_polygon(polygon), p)
 }
 
 // The height at a place of a packed polygon, as one entry of its bits, or no entry.
 pub fn height(file: &[u8], p: Vec2, polygon: u32, out: &mut [u8]) -> Answer
     ensures { Replied (height_reply file.now p polygon) out.old out.new result }
 {
-    match height_check(file, p, polygon) {
-        Check::No(number) => return Answer::Refused(number),
-        Check::Passed => {}
-    }
+    height_check(file, p, polygon)?;
     match height_asked(file, p, polygon) {
-        Height::None => Answer::Wrote(0),
+        Height::None => Ok(0),
         Height::Known(h) => {
             if out.len() < 4 {
-                return Answer::Refused(20);
+                return Err(Refusal::NoRoom);
             }
             words::put_f32(out, 0, h);
-            Answer::Wrote(1)
+            Ok(1)
         }
     }
 }

@@ -13,15 +13,14 @@ use Rattle.geometry.specs.declared.Vec2.{Vec2}
 use Rattle.words.specs.Bytes.{all_ones, bytes4, joined, words_of, splice}
 use Rattle.words.specs.Rows.{collect}
 use Rattle.words.proofs.Numbers.{length_words, splice_front}
-use Rattle.answers.specs.declared.Check.{Check}
-use Rattle.answers.specs.declared.Check.TheVariants.{Passed, No}
-use Rattle.answers.specs.declared.Answer.{Answer}
-use Rattle.answers.specs.declared.Answer.TheVariants.{Refused, Wrote}
-use Rattle.answers.specs.Checks.{ask, after}
+use Rattle.answers.specs.Checks.{ask, after, Check}
 use Rattle.answers.specs.Questions.{question17, question20}
-use Rattle.answers.specs.Replies.{Reply, reply_of, Replied, work_to, Worked}
+use Rattle.answers.specs.Replies.{Reply, reply_of, Replied, work_to, Worked, Answer}
 use Rattle.answers.proofs.Asking.{said_no, said_yes, q20_short, q20_fits, q20_yes}
 use Rattle.answers.proofs.Replying.{worked_refused, worked_narrow, worked_short, worked_written}
+use Rattle.std.specs.Prelude.{Ok, Err}
+use Rattle.answers.specs.declared.Refusal.{Refusal}
+use Rattle.answers.specs.declared.Refusal.TheVariants.{NoRoom}
 use Rattle.ship.specs.Layout.{number_size, decks_in}
 use Rattle.ship.specs.Model.{polygon_total}
 use Rattle.ship.specs.Decode.{decode}
@@ -34,16 +33,16 @@ use Rattle.candidates.specs.Candidates.{candidate_check, found_polygons, candida
 use Rattle.candidates.specs.Written.{NumbersWorked, ListFits, NumbersMerged, found_merged}
 
 -- ---- a list of polygons
-pub numbers_short : (polygons : List ℕ) {out work : List ℕ} → length out < number_size * length polygons → NumbersWorked polygons out out work work (Refused 20)
+pub numbers_short : (polygons : List ℕ) {out work : List ℕ} → length out < number_size * length polygons → NumbersWorked polygons out out work work (Err NoRoom)
 numbers_short polygons l = worked_short refl refl (omega arith) (omega (arith, length_words polygons))
 
 pub numbers_written : (polygons : List ℕ) {out out' work work' : List ℕ} {n : ℕ} → number_size * length polygons ≤ length out → n ≡ length polygons
-    → out' ≡ splice out 0 (words_of polygons) → work' ≡ replicate (length work) 0 → NumbersWorked polygons out out' work work' (Wrote n)
+    → out' ≡ splice out 0 (words_of polygons) → work' ≡ replicate (length work) 0 → NumbersWorked polygons out out' work work' (Ok n)
 numbers_written polygons {out} l n o z =
     worked_written refl refl (omega arith) (omega (arith, length_words polygons)) n (o ∙ splice_front out (words_of polygons)) z
 
 -- ---- `put_none`, `put_named`
-pub none_written : {out work work' : List ℕ} → work' ≡ replicate (length work) 0 → NumbersWorked [] out out work work' (Wrote 0)
+pub none_written : {out work work' : List ℕ} → work' ≡ replicate (length work) 0 → NumbersWorked [] out out work work' (Ok 0)
 unfolding joined
 none_written z = worked_written refl refl (omega arith) (omega arith) refl refl z
 
@@ -51,11 +50,11 @@ pub named_room : (out : List ℕ) {fits : Bool} → fits ≡ question20 (number_
 named_room out said room = q20_fits (number_size * 1) (length out) (said_yes said room)
 
 module _ (polygon : ℕ) (out : List ℕ) {work : List ℕ} {fits : Bool} (said : fits ≡ question20 (number_size * 1) (length out)) where
-  pub named_short : not fits ≡ true → NumbersWorked (polygon ∷ []) out out work work (Refused 20)
+  pub named_short : not fits ≡ true → NumbersWorked (polygon ∷ []) out out work work (Err NoRoom)
   named_short no_room = numbers_short (polygon ∷ []) (q20_short (number_size * 1) (length out) (said_no said no_room))
 
   pub named_written : not fits ≡ false → {out' work' : List ℕ} → out' ≡ splice out 0 (bytes4 polygon) → work' ≡ replicate (length work) 0
-      → NumbersWorked (polygon ∷ []) out out' work work' (Wrote 1)
+      → NumbersWorked (polygon ∷ []) out out' work work' (Ok 1)
   unfolding joined bytes4
   named_written room o z = numbers_written (polygon ∷ []) (named_room out said room) refl o z
 
@@ -75,14 +74,14 @@ module _ {file blocked : List ℕ} {seat : Seat} {s : ℕ} {work work₁ : List 
     staying_word room l = record { fits = omega (arith, staying_room room) }
 
     pub staying_written : not fits ≡ false → {out' work' : List ℕ} → out' ≡ splice out 0 (take (number_size * stay) work₁) → work' ≡ replicate (length work₁) 0
-        → NumbersWorked (step_merged file blocked seat s) out out' work work' (Wrote stay)
+        → NumbersWorked (step_merged file blocked seat s) out out' work work' (Ok stay)
     staying_written room o z =
         numbers_written (step_merged file blocked seat s) (q20_fits (number_size * length (step_merged file blocked seat s)) (length out) (said_yes said room)) m.count
         (o ∙ ap (splice out 0) m.first) (z ∙ ap (λ (n : ℕ). replicate n 0) m.long)
 
 pub staying_short : (file blocked : List ℕ) (seat : Seat) (s : ℕ) (out : List ℕ) {work : List ℕ} {fits : Bool}
     → fits ≡ question20 (number_size * length (step_merged file blocked seat s)) (length out) → not fits ≡ true
-    → NumbersWorked (step_merged file blocked seat s) out out work work (Refused 20)
+    → NumbersWorked (step_merged file blocked seat s) out out work work (Err NoRoom)
 staying_short file blocked seat s out said no_room =
     numbers_short (step_merged file blocked seat s) (q20_short (number_size * length (step_merged file blocked seat s)) (length out) (said_no said no_room))
 
@@ -90,9 +89,9 @@ pub ruleset staying = (staying_short, staying_inside, staying_room, staying_word
 
 -- ---- the call: its questions passed, and work is wide enough
 lifted : {polygons polygons' : List ℕ} {check : Check} {wanted : ℕ} {out out' work work' : List ℕ} {r : Answer} → NumbersWorked polygons out out' work work' r
-    → check ≡ Passed → wanted ≤ length work → polygons ≡ polygons' → Worked (reply_of check bytes4 polygons') wanted out out' work work' r
+    → check ≡ Ok tt → wanted ≤ length work → polygons ≡ polygons' → Worked (reply_of check bytes4 polygons') wanted out out' work work' r
 lifted {polygons} {polygons'} {check} {wanted} {out} {out'} {work} {work'} {r} w passed wide same =
-    let k : ask (question20 0 (length work)) 20 Passed ≡ after check (ask (question20 wanted (length work)) 20 Passed)
+    let k : ask (question20 0 (length work)) NoRoom (Ok tt) ≡ after check (ask (question20 wanted (length work)) NoRoom (Ok tt))
     = rw (passed, q20_yes 0 (length work) (omega arith), q20_yes wanted (length work) wide) in
     let R : Check → Reply = λ c. record { check = c; count = length polygons; bytes = joined bytes4 polygons } in
     rw (← same)
@@ -110,11 +109,11 @@ pub call_wide : (file work : List ℕ) {total : ℕ} {fits : Bool} → total ≡
 call_wide file work {total} all said room = rw all at (q20_fits (number_size * total) (length work) (said_yes said room))
 
 module _ (file : List ℕ) (p : Vec2) (deck polygon : ℕ) (blocked : List ℕ) {out work : List ℕ} {c : Check} (asked : c ≡ candidate_check file p blocked) where
-  pub call_refused : {number : ℕ} → c ≡ No number → CandidatesWorked file p deck polygon blocked out out work work (Refused number)
+  pub call_refused : {refusal : Refusal} → c ≡ Err refusal → CandidatesWorked file p deck polygon blocked out out work work (Err refusal)
   call_refused e = worked_refused asked e
 
-  module _ (passed : c ≡ Passed) {total : ℕ} {fits : Bool} (all : total ≡ polygon_total (decode file)) (said : fits ≡ question20 (number_size * total) (length work)) where
-    pub call_narrow : not fits ≡ true → CandidatesWorked file p deck polygon blocked out out work work (Refused 20)
+  module _ (passed : c ≡ Ok tt) {total : ℕ} {fits : Bool} (all : total ≡ polygon_total (decode file)) (said : fits ≡ question20 (number_size * total) (length work)) where
+    pub call_narrow : not fits ≡ true → CandidatesWorked file p deck polygon blocked out out work work (Err NoRoom)
     call_narrow no_room = worked_narrow asked passed (rw all at (q20_short (number_size * total) (length work) (said_no said no_room)))
 
     module _ (room : not fits ≡ false) where

@@ -9,10 +9,10 @@ use lib.ListN.{length}
 use Rattle.geometry.specs.declared.Vec2.{Vec2}
 use Rattle.ring.specs.Table.{directions}
 use Rattle.words.specs.Rows.{collect}
-use Rattle.answers.specs.declared.Check.{Check}
-use Rattle.answers.specs.declared.Check.TheVariants.{Passed}
-use Rattle.answers.specs.declared.Answer.{Answer}
 use Rattle.answers.specs.Questions.{question17, question20}
+use Rattle.answers.specs.Checks.{Check}
+use Rattle.answers.specs.Replies.{Answer}
+use Rattle.std.specs.Prelude.{Ok}
 use Rattle.records.specs.declared.SeatRecord.{SeatRecord}
 use Rattle.records.specs.Record.{is_unplaced}
 use Rattle.ship.specs.Layout.{number_size, decks_in}
@@ -76,7 +76,7 @@ module _ {file : List ℕ} {p : Vec2} {deck : ℕ} {blocked work : List ℕ} (re
 pub ruleset found_numbers = (found_ready, found_none, found_fits, found_some)
 
 -- ---- `candidate_polygons`
-pub call_ready : (file : List ℕ) (p : Vec2) (deck : ℕ) (blocked work : List ℕ) {c : Check} → c ≡ candidate_check file p blocked → c ≡ Passed
+pub call_ready : (file : List ℕ) (p : Vec2) (deck : ℕ) (blocked work : List ℕ) {c : Check} → c ≡ candidate_check file p blocked → c ≡ Ok tt
     → {total : ℕ} {fits : Bool} → total ≡ polygon_total (decode file) → fits ≡ question20 (number_size * total) (length work) → not fits ≡ false
     → {decks : ℕ} {there : Bool} → decks ≡ decks_in file → there ≡ question17 decks deck → not there ≡ false → FoundReady file p deck blocked work
 call_ready file p deck blocked work asked passed all said room count told t =

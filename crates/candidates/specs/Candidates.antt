@@ -1,13 +1,11 @@
 -- Document 01, section 8, `candidate_polygons`: its questions and its entries.
-use Rattle.std.specs.Prelude.{ℕ, ◌*◌, cond, List, [], ◌∷◌, map, eqb, ℤ, Float}
+use Rattle.std.specs.Prelude.{ℕ, ◌*◌, cond, List, [], ◌∷◌, map, eqb, ℤ, Float, Ok}
 use Rattle.geometry.specs.declared.Vec2.{Vec2}
 use Rattle.words.specs.Bytes.{all_ones, bytes4}
-use Rattle.answers.specs.declared.Check.{Check}
-use Rattle.answers.specs.declared.Check.TheVariants.{Passed}
-use Rattle.answers.specs.declared.Answer.{Answer}
-use Rattle.answers.specs.Checks.{ask, after}
+use Rattle.answers.specs.Checks.{ask, after, Check}
 use Rattle.answers.specs.Questions.{question14, question17}
-use Rattle.answers.specs.Replies.{Reply, reply_of, Worked, WorkedCode}
+use Rattle.answers.specs.Replies.{Reply, reply_of, Worked, WorkedCode, Answer}
+use Rattle.answers.specs.declared.Refusal.TheVariants.{WrongLength, CallFloatOutOfRange}
 use Rattle.ship.specs.Layout.{number_size, decks_in}
 use Rattle.ship.specs.Model.{polygon_total}
 use Rattle.ship.specs.Decode.{decode}
@@ -19,7 +17,7 @@ use Rattle.numbering.specs.Numbers.{packed_candidate}
 
 -- 14 and 16; an absent deck is no refusal here
 unfoldable pub candidate_check : List ℕ → Vec2 → List ℕ → Check
-candidate_check file p blocked = after (first_no file) (ask (question14 blocked) 14 (ask (question16 p) 16 Passed))
+candidate_check file p blocked = after (first_no file) (ask (question14 blocked) WrongLength (ask (question16 p) CallFloatOutOfRange (Ok tt)))
 
 -- 'as 5, packed, except that .. an absent one gives nothing'; a blocked one is not open in 5 and gives nothing there
 unfoldable pub found_polygons : List ℕ → Vec2 → ℕ → List ℕ → List ℕ

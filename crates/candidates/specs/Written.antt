@@ -1,10 +1,8 @@
 -- What the functions below `candidate_polygons` need and promise.
-use Rattle.std.specs.Prelude.{ℕ, ◌*◌, ◌≤◌, ◌≡◌, List, map, ℤ, length}
+use Rattle.std.specs.Prelude.{ℕ, ◌*◌, ◌≤◌, ◌≡◌, List, map, ℤ, length, Ok}
 use Rattle.geometry.specs.declared.Vec2.{Vec2}
 use Rattle.words.specs.Bytes.{bytes4, slice, words_of}
-use Rattle.answers.specs.declared.Check.TheVariants.{Passed}
-use Rattle.answers.specs.declared.Answer.{Answer}
-use Rattle.answers.specs.Replies.{reply_of, Worked}
+use Rattle.answers.specs.Replies.{reply_of, Worked, Answer}
 use Rattle.ship.specs.Layout.{number_size}
 use Rattle.ship.specs.Decode.{decode}
 use Rattle.survey.specs.declared.Seat.{Seat}
@@ -16,7 +14,7 @@ use Rattle.candidates.specs.Candidates.{candidates_work}
 
 -- a list of polygons as the answer, once all questions but 20 of the output have passed
 abbrev pub NumbersWorked : List ℕ → List ℕ → List ℕ → List ℕ → List ℕ → Answer → Type 0
-NumbersWorked polygons out out' work work' r = Worked (reply_of Passed bytes4 polygons) 0 out out' work work' r
+NumbersWorked polygons out out' work work' r = Worked (reply_of (Ok tt) bytes4 polygons) 0 out out' work work' r
 
 -- a list that the numbers of step s fit in
 pub record ListFits (file blocked : List ℕ) (table : List ℤ) (seat : Seat) (s count : ℕ) (list array : List ℕ) : Type 0 where
@@ -35,5 +33,5 @@ found_merged file p deck blocked = merged (touches (decode file)) (map packed_ca
 
 -- a query that passed, and work that is wide enough
 pub record FoundReady (file : List ℕ) (p : Vec2) (deck : ℕ) (blocked work : List ℕ) : Type 0 where
-  pub passed : query_check file p deck blocked ≡ Passed
+  pub passed : query_check file p deck blocked ≡ Ok tt
   pub wide : candidates_work file ≤ length work

@@ -8,7 +8,7 @@ ghost use Rattle.numbering.specs.Numbers.{step_merged, StepCounted};
 ghost use Rattle.candidates.specs.Candidates.{candidate_check, CandidatesWorked, CandidatesMerged};
 ghost use Rattle.candidates.specs.Written.{NumbersWorked, ListFits, NumbersMerged, FoundReady, found_merged};
 
-use answers::{Answer, Check};
+use answers::{Answer, Check, Refusal};
 use geometry::Vec2;
 use keeping::{KEPT_SIZE, NEAR_SIZE};
 use ship::NUMBER_SIZE;
@@ -17,23 +17,20 @@ use survey::Seat;
 // The most numbers that are merged in an array of one's own, and its bytes.
 const OWN_NUMBERS: usize = 16384;
 
-const OWN_BYTES: usize = 65536;
+const OWN_BYTES: usize = NUMBER_SIZE * OWN_NUMBERS;
 
 // Questions 1 to 16.
 fn candidate_check(file: &[u8], p: Vec2, blocked: &[u8]) -> Check
     ensures { result ≡ candidate_check file.now p blocked.now }
 {
-    match ship::first_no(file) {
-        Check::No(number) => return Check::No(number),
-        Check::Passed => {}
-    }
+    ship::first_no(file)?;
     if !answers::blocked_whole(blocked) {
-        return Check::No(14);
+        return Err(Refusal::WrongLength);
     }
     if !calls::place_in_size(p) {
-        return Check::No(16);
+        return Err(Refusal::CallFloatOutOfRange);
     }
-    Check::Passed
+    Ok(())
 }
 
 // No polygon.
@@ -41,7 +38,7 @@ fn put_none(out: &mut [u8], work: &mut [u8]) -> Answer
     ensures { NumbersWorked [] out.old out.new work.old work.new result }
 {
     words::clear(work);
-    Answer::Wrote(0)
+    Ok(0)
 }
 
 // The polygon that was named.
@@ -49,11 +46,11 @@ fn put_named(polygon: u32, out: &mut [u8], work: &mut [u8]) -> Answer
     ensures { NumbersWorked (polygon ∷ []) out.old out.new work.old work.new result }
 {
     if !answers::room_for(NUMBER_SIZE, 1, out.len()) {
-        return Answer::Refused(20);
+        return Err(Refusal::NoRoom);
     }
     words::put_u32(out, 0, polygon);
     words::clear(work);
-    Answer::Wrote(1)
+    Ok(1)
 }
 
 // Of the numbers of step s, of which there are `count`, those that stay come first in the list. How many they are is returned.
@@ -132,12 +129,12 @@ fn put_staying(
         work.old work.new result }
 {
     if !staying_fit(file, blocked, table, seat, s, count, out.len(), kept) {
-        return Answer::Refused(20);
+        return Err(Refusal::NoRoom);
     }
     let stay = merge_numbers(file, blocked, table, seat, s, count, work, kept);
     words::put_front(work, NUMBER_SIZE * stay, out);
     words::clear(work);
-    Answer::Wrote(stay)
+    Ok(stay)
 }
 
 // The polygons around p, merged.
@@ -161,13 +158,12 @@ fn put_found(
     if records::unplaced(found) {
         return put_none(out, work);
     }
-    let step = found.step as usize;
     put_staying(
         file,
         blocked,
         &table,
         seat,
-        step,
+        found.step as usize,
         found.candidates as usize,
         out,
         work,
@@ -189,14 +185,11 @@ pub fn candidate_polygons(
         out.old out.new work.old work.new result }
     ensures merged { CandidatesMerged file.now p deck blocked.now }
 {
-    match candidate_check(file, p, blocked) {
-        Check::No(number) => return Answer::Refused(number),
-        Check::Passed => {}
-    }
+    candidate_check(file, p, blocked)?;
     if !answers::room_for(NUMBER_SIZE, decks::polygon_total(file), work.len()) {
-        return Answer::Refused(20);
+        return Err(Refusal::NoRoom);
     }
-    if polygon != 0xFFFF_FFFF {
+    if polygon != words::ALL_ONES {
         return put_named(polygon, out, work);
     }
     if !answers::deck_there(decks::deck_count(file), deck) {

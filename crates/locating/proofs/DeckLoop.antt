@@ -6,8 +6,7 @@ use mathlib.Core.List.{List, [], ◌∷◌, ◌++◌}
 use native.Mathlib.Omega.{arith}
 use mir.Syntax.{w64}
 use mir.Val.{Fits}
-use lib.IntN.{ℤ}
-use lib.ListN.{length, drop, take, length-drop}
+use lib.ListN.{length, get_or, drop, take, length-drop}
 use lib.Seq.{take_at}
 use Rattle.geometry.specs.declared.Vec2.{Vec2}
 use Rattle.words.specs.Bytes.{all_ones, bytes4, words_of, splice, put_u32}
@@ -15,23 +14,22 @@ use Rattle.words.specs.Rows.{collect}
 use Rattle.words.proofs.Collecting.{collect_yes, collect_no, collect_none, length_collect, sum_bound}
 use Rattle.words.proofs.Numbers.{length_words}
 use Rattle.words.proofs.Writing.{Rest, rest_all, rest_more_front, rest_front, length_bytes4, next_of}
-use Rattle.answers.specs.declared.Check.{Check}
-use Rattle.answers.specs.declared.Check.TheVariants.{Passed, No}
-use Rattle.answers.specs.declared.Answer.TheVariants.{Refused, Wrote}
 use Rattle.answers.specs.Questions.{looks_at, question20}
-use Rattle.answers.specs.Replies.{Replied, code_of}
+use Rattle.answers.specs.Replies.{Replied}
 use Rattle.answers.proofs.Asking.{both_passed}
 use Rattle.answers.proofs.Replying.{replied_refused, replied_short, replied_written, room_short, room_fits}
+use Rattle.answers.specs.Checks.{Check}
+use Rattle.std.specs.Option.{unwrap_or}
+use Rattle.std.specs.Prelude.{Option, Some, None, Ok, Err, slice_get}
+use Rattle.answers.specs.declared.Refusal.{Refusal}
+use Rattle.answers.specs.declared.Refusal.TheVariants.{NoRoom}
 use Rattle.hits.specs.declared.Hit.{Hit}
-use Rattle.hits.specs.declared.Hit.TheVariants.{At, Missed}
 use Rattle.ship.specs.Layout.{decks_in}
 use Rattle.ship.specs.Decode.{decode}
 use Rattle.ship.specs.Packed.{packed_of}
 use Rattle.ship.specs.Questions.{first_no}
 use Rattle.ship.proofs.Facts.{decks_few}
-use Rattle.locating.specs.declared.Location.{Location}
-use Rattle.locating.specs.declared.Location.TheVariants.{Found, Refused as Location-as-Refused}
-use Rattle.locating.specs.Locating.{location_of, location_code, packed_hit, hit_on, point_layer, point_location, point_check, layer_reply}
+use Rattle.locating.specs.Locating.{location_of, packed_hit, hit_on, point_layer, point_location, point_check, layer_reply}
 use Rattle.locating.proofs.Probing.{hit_polygon}
 
 -- what deck d gives, and the decks from e on
@@ -41,11 +39,11 @@ given file p d = packed_hit d (hit_on (decode file) p d)
 abbrev from : List ℕ → Vec2 → ℕ → ℕ → List ℕ
 from file p deck e = collect (looks_at deck) (given file p) e (decks_in file - e)
 
-given_few : (d : ℕ) (hit : Hit) → length (packed_hit d hit) ≤ 1
-given_few d (At i k) = omega arith
-given_few d Missed = omega arith
+given_few : (d : ℕ) (hit : Option Hit) → length (packed_hit d hit) ≤ 1
+given_few d (Some h) = omega arith
+given_few d None = omega arith
 
-pub layers_few : (file : List ℕ) (p : Vec2) (deck : ℕ) → first_no file ≡ Passed → length (point_layer file p deck) ≤ 256
+pub layers_few : (file : List ℕ) (p : Vec2) (deck : ℕ) → first_no file ≡ Ok tt → length (point_layer file p deck) ≤ 256
 unfolding point_layer
 layers_few file p deck passed =
     omega (
@@ -56,8 +54,8 @@ layers_few file p deck passed =
     )
 
 -- a hit's polygon can be packed
-pub hit_small : (file : List ℕ) (p : Vec2) {count d : ℕ} {hit : Hit} {j k : ℕ} → first_no file ≡ Passed → count ≡ decks_in file → d < count
-    → hit ≡ hit_on (decode file) p d → hit ≡ At j k → k < 2 ^ 24
+pub hit_small : (file : List ℕ) (p : Vec2) {count d : ℕ} {hit : Option Hit} {h : Hit} → first_no file ≡ Ok tt → count ≡ decks_in file → d < count
+    → hit ≡ hit_on (decode file) p d → hit ≡ Some h → h.polygon < 2 ^ 24
 hit_small file p passed all l found e = hit_polygon file passed (omega arith) p found e
 
 -- ---- `locate`: the decks before e gave nothing
@@ -69,24 +67,22 @@ unfolding point_layer
 seeking_all file = record { same = let e : decks_in file - 0 ≡ decks_in file = omega arith in rw e }
 
 module _ {file : List ℕ} {p : Vec2} {deck n e : ℕ} (h : Seeking file p deck e) (all : n ≡ decks_in file) where
-  pub seeking_none : n ≤ e → all_ones ≡ point_location file p deck
-  unfolding point_location
+  pub seeking_none : n ≤ e → None ≡ slice_get (point_layer file p deck) 0
   seeking_none l = rw (h.same, collect_none (looks_at deck) (given file p) e (decks_in file) (omega arith))
 
   module _ {r : Bool} (l : e < n) (asked : r ≡ looks_at deck e) where
     pub seeking_other : r ≡ false → Seeking file p deck (e + 1)
     seeking_other t = record { same = h.same ∙ collect_no (looks_at deck) (given file p) e (decks_in file) (omega arith) (sym asked ∙ t) }
 
-    module _ {hit : Hit} (t : r ≡ true) (found : hit ≡ hit_on (decode file) p e) where
+    module _ {hit : Option Hit} (t : r ≡ true) (found : hit ≡ hit_on (decode file) p e) where
       turn : point_layer file p deck ≡ packed_hit e hit ++ from file p deck (e + 1)
       turn = h.same ∙ collect_yes (looks_at deck) (given file p) e (decks_in file) (omega arith) (sym asked ∙ t) ∙ rw found
 
-      pub seeking_missed : hit ≡ Missed → Seeking file p deck (e + 1)
+      pub seeking_missed : hit ≡ None → Seeking file p deck (e + 1)
       seeking_missed m = record { same = turn ∙ rw m }
 
-      pub seeking_found : {i k polygon : ℕ} → hit ≡ At i k → polygon ≡ packed_of e k → polygon ≡ point_location file p deck
-      unfolding point_location
-      seeking_found m packed = packed ∙ rw (turn, m)
+      pub seeking_found : {h : Hit} {polygon : ℕ} → hit ≡ Some h → polygon ≡ packed_of e h.polygon → Some polygon ≡ slice_get (point_layer file p deck) 0
+      seeking_found m packed = ap Some packed ∙ rw (turn, m)
 
 pub ruleset seeking = (seeking_all, seeking_none, seeking_other, seeking_missed, seeking_found, hit_small)
 
@@ -97,7 +93,7 @@ pub record Listing (file : List ℕ) (p : Vec2) (deck : ℕ) (list₀ list : Lis
   pub rest : Rest bytes4 4 0 list₀ 0 (point_layer file p deck) list n
   pub left_is : drop n (point_layer file p deck) ≡ from file p deck e
 
-pub listing_all : (file : List ℕ) {p : Vec2} {deck : ℕ} {list : List ℕ} → first_no file ≡ Passed → 1024 ≤ length list → Listing file p deck list list 0 0
+pub listing_all : (file : List ℕ) {p : Vec2} {deck : ℕ} {list : List ℕ} → first_no file ≡ Ok tt → 1024 ≤ length list → Listing file p deck list list 0 0
 unfolding point_layer
 listing_all file {p} {deck} passed room =
     record {
@@ -138,21 +134,21 @@ module _ {file : List ℕ} {p : Vec2} {deck : ℕ} {list₀ list : List ℕ} {n 
           left_is = h.left_is ∙ collect_no (looks_at deck) (given file p) e (decks_in file) (omega arith) (sym asked ∙ t);
         }
 
-    module _ {hit : Hit} (t : r ≡ true) (found : hit ≡ hit_on (decode file) p e) where
+    module _ {hit : Option Hit} (t : r ≡ true) (found : hit ≡ hit_on (decode file) p e) where
       gives : drop n (point_layer file p deck) ≡ packed_hit e hit ++ from file p deck (e + 1)
       gives = h.left_is ∙ collect_yes (looks_at deck) (given file p) e (decks_in file) (omega arith) (sym asked ∙ t) ∙ rw found
 
-      pub listing_missed : hit ≡ Missed → Listing file p deck list₀ list n (e + 1)
+      pub listing_missed : hit ≡ None → Listing file p deck list₀ list n (e + 1)
       listing_missed m = record { few = h.few; room = h.room; rest = h.rest; left_is = gives ∙ rw m }
 
-      module _ {i k : ℕ} (m : hit ≡ At i k) where
-        next : drop n (point_layer file p deck) ≡ packed_of e k ∷ from file p deck (e + 1)
+      module _ {f : Hit} (m : hit ≡ Some f) where
+        next : drop n (point_layer file p deck) ≡ packed_of e f.polygon ∷ from file p deck (e + 1)
         next = gives ∙ rw m
 
         pub listing_room : 4 * n + 4 ≤ length list
         listing_room = omega (arith, (next_of (point_layer file p deck) 0 n next).below, h.room, h.rest.long)
 
-        pub listing_more : {polygon : ℕ} {list' : List ℕ} → polygon ≡ packed_of e k → list' ≡ put_u32 list (4 * n) polygon → Listing file p deck list₀ list' (n + 1) (e + 1)
+        pub listing_more : {polygon : ℕ} {list' : List ℕ} → polygon ≡ packed_of e f.polygon → list' ≡ put_u32 list (4 * n) polygon → Listing file p deck list₀ list' (n + 1) (e + 1)
         listing_more packed put =
             let o = next_of (point_layer file p deck) 0 n next in
             record {
@@ -163,7 +159,7 @@ module _ {file : List ℕ} {p : Vec2} {deck : ℕ} {list₀ list : List ℕ} {n 
             }
 
 -- at most one a deck
-module _ {file : List ℕ} {p : Vec2} {deck : ℕ} {list₀ list : List ℕ} {n e : ℕ} (passed : first_no file ≡ Passed) (h : Listing file p deck list₀ list n e) where
+module _ {file : List ℕ} {p : Vec2} {deck : ℕ} {list₀ list : List ℕ} {n e : ℕ} (passed : first_no file ≡ Ok tt) (h : Listing file p deck list₀ list n e) where
   listing_few : n ≤ 256
   listing_few = omega (arith, h.few, layers_few file p deck passed)
 
@@ -177,7 +173,7 @@ pub ruleset listing =
     (listing_all, listing_long, listing_count, listing_bytes, listing_other, listing_missed, listing_room, listing_more, listing_inside, listing_fits, listing_at, hit_small)
 
 -- ---- a passed point
-pub point_passed : (file : List ℕ) (p : Vec2) {r : Check} → r ≡ point_check file p → r ≡ Passed → first_no file ≡ Passed
+pub point_passed : (file : List ℕ) (p : Vec2) {r : Check} → r ≡ point_check file p → r ≡ Ok tt → first_no file ≡ Ok tt
 unfolding point_check
 point_passed file p asked passed = (both_passed (first_no file) _ (sym asked ∙ passed)).0
 
@@ -186,8 +182,8 @@ module _ (file : List ℕ) (p : Vec2) (deck : ℕ) {count : ℕ} (counted : coun
   layer_long : length (words_of (point_layer file p deck)) ≡ 4 * count
   layer_long = length_words (point_layer file p deck) ∙ rw counted
 
-  module _ {r : Check} (asked : r ≡ point_check file p) (passed : r ≡ Passed) (out : List ℕ) {fits : Bool} (room : fits ≡ question20 (4 * count) (length out)) where
-    pub layer_short : not fits ≡ true → Replied (layer_reply file p deck) out out (Refused 20)
+  module _ {r : Check} (asked : r ≡ point_check file p) (passed : r ≡ Ok tt) (out : List ℕ) {fits : Bool} (room : fits ≡ question20 (4 * count) (length out)) where
+    pub layer_short : not fits ≡ true → Replied (layer_reply file p deck) out out (Err NoRoom)
     layer_short no_room = replied_short asked passed (room_short (layer_reply file p deck) out 4 count layer_long room no_room)
 
     module _ (has_room : not fits ≡ false) where
@@ -195,7 +191,7 @@ module _ (file : List ℕ) (p : Vec2) (deck : ℕ) {count : ℕ} (counted : coun
       layer_room = omega (arith, layer_long, room_fits (layer_reply file p deck) out 4 count layer_long room has_room)
 
       pub layer_written : (list : List ℕ) {out' : List ℕ} → take (4 * count) list ≡ words_of (point_layer file p deck) → out' ≡ splice out 0 (take (4 * count) list)
-          → Replied (layer_reply file p deck) out out' (Wrote count)
+          → Replied (layer_reply file p deck) out out' (Ok count)
       unfolding splice
       layer_written list is put =
           let fit = room_fits (layer_reply file p deck) out 4 count layer_long room has_room in
@@ -205,23 +201,18 @@ module _ (file : List ℕ) (p : Vec2) (deck : ℕ) {count : ℕ} (counted : coun
 pub ruleset layers = (point_passed, replied_refused, layer_short, layer_room, layer_written)
 
 -- ---- `get_point_location`
+first_or : (l : List ℕ) (d : ℕ) → unwrap_or (slice_get l 0) d ≡ get_or l 0 d
+first_or [] d = refl
+first_or (x ∷ l) d = refl
+
 module _ (file : List ℕ) (p : Vec2) (deck : ℕ) {r : Check} (asked : r ≡ point_check file p) where
-  pub location_refused : {number : ℕ} → r ≡ No number → Location-as-Refused number ≡ location_of file p deck
+  pub location_refused : {question : Refusal} → r ≡ Err question → Err question ≡ location_of file p deck
   unfolding location_of
   location_refused e = rw (sym asked ∙ e)
 
-  pub location_found : {polygon : ℕ} → r ≡ Passed → polygon ≡ point_location file p deck → Found polygon ≡ location_of file p deck
-  unfolding location_of
-  location_found e f = rw (sym asked ∙ e, f)
+  pub location_found : {found : Option ℕ} {polygon : ℕ} → r ≡ Ok tt → found ≡ slice_get (point_layer file p deck) 0 → polygon ≡ unwrap_or found all_ones
+      → Ok polygon ≡ location_of file p deck
+  unfolding location_of point_location
+  location_found e f g = rw (sym asked ∙ e, g, f) (ap Ok (first_or (point_layer file p deck) all_ones))
 
 pub ruleset locations = (point_passed, location_refused, location_found)
-
--- ---- `code`
-module _ {location : Location} {z : ℤ} where
-  pub found_code : {polygon n : ℕ} → location ≡ Found polygon → n ≡ polygon → z ≡ code_of (Wrote n) → z ≡ location_code location
-  found_code e f g = g ∙ rw (e, f)
-
-  pub refused_code : {number : ℕ} → location ≡ Location-as-Refused number → z ≡ code_of (Refused number) → z ≡ location_code location
-  refused_code e g = g ∙ rw e
-
-pub ruleset location_codes = (found_code, refused_code)

@@ -1,113 +1,95 @@
 // On which polygon a point is, looked for at nine probes a deck (document 01, section 8).
 #![tactic(auto)]
 
-ghost use Rattle.std.specs.Prelude.{◌≡◌, ◌*◌, ◌<◌, ◌≤◌, length, take};
+ghost use Rattle.std.specs.Prelude.{◌≡◌, ◌*◌, ◌<◌, ◌≤◌, length, take, slice_get};
 ghost use Rattle.words.specs.Bytes.{words_of};
-ghost use Rattle.answers.specs.declared.Check.TheVariants.{Passed};
 ghost use Rattle.ship.specs.Layout.{decks_in};
-ghost use Rattle.ship.specs.Decode.{decode, deck_at};
-ghost use Rattle.ship.specs.Questions.{first_no, DeckOfPassed};
-ghost use Rattle.locating.specs.Locating.{probe_hit, hit_on, point_layer, point_location, point_check, location_of, location_code, LayerReplied};
+ghost use Rattle.answers.specs.Replies.{code_of};
+ghost use Rattle.ship.specs.Decode.{decode};
+ghost use Rattle.ship.specs.Questions.{first_no};
+ghost use Rattle.locating.specs.Locating.{probe_hit, hit_on, point_layer, point_check, location_of, LayerReplied};
 
-use answers::{Answer, Check};
+use answers::{Answer, Check, Refusal};
+use decks::Deck;
 use geometry::Vec2;
 use hits::Hit;
-use ship::{Blocks, NUMBER_SIZE};
-
-// The number of the question that was not passed, or the packed polygon, all ones where there is none.
-#[derive(Clone, Copy)]
-pub enum Location {
-    Refused(u32),
-    Found(u32),
-}
+use ship::NUMBER_SIZE;
 
 // The first probe that hits, and the first polygon there. p is in the deck's own coordinates.
-fn probe_hit(file: &[u8], b: Blocks, p: Vec2, reach: f32) -> Hit
-    requires { DeckOfPassed file.now b }
-    ensures { result ≡ probe_hit (deck_at file.now b) p reach }
+#[tactic(auto, using(crate::proofs::Probing::probing))]
+fn probe_hit(deck: &Deck<'_>, p: Vec2, reach: f32) -> Option<Hit>
+    ensures { result ≡ probe_hit deck.now p reach }
 {
-    let mut i: usize = 0;
-    'probes: while i < 9 {
-        let k = i;
-        i += 1;
+    'probes: for k in 0..9 {
         let q = ring::probe(p, reach, k);
-        if let Hit::At(probe, polygon) = search::next_hit(file, b, q, k, 0) {
-            return Hit::At(probe, polygon);
+        if let Some(hit) = search::next_hit(deck, q, k, 0) {
+            return Some(hit);
         }
     }
-    Hit::Missed
+    None
 }
 
 // The same on deck d.
-fn hit_on(file: &[u8], p: Vec2, d: usize) -> Hit
-    requires { (first_no file.now ≡ Passed) × (d < decks_in file.now) }
+fn hit_on(file: &[u8], p: Vec2, d: usize) -> Option<Hit>
+    requires { (first_no file.now ≡ Ok tt) × (d < decks_in file.now) }
     ensures { result ≡ hit_on (decode file.now) p d }
 {
-    let b = decks::deck_blocks(file, d);
-    let around = geometry::sub(p, decks::offset(file, b));
-    probe_hit(file, b, around, decks::reach(file))
+    let deck = Deck::of(file, d);
+    probe_hit(&deck, p - deck.offset(), decks::reach(file))
 }
 
 // Questions 1 to 16 of a point.
 fn point_check(file: &[u8], p: Vec2) -> Check
     ensures { result ≡ point_check file.now p }
 {
-    match ship::first_no(file) {
-        Check::No(number) => return Check::No(number),
-        Check::Passed => {}
-    }
+    ship::first_no(file)?;
     if !calls::place_in_size(p) {
-        return Check::No(16);
+        return Err(Refusal::CallFloatOutOfRange);
     }
-    Check::Passed
+    Ok(())
 }
 
 // The polygon on the first deck that has one.
-fn locate(file: &[u8], p: Vec2, deck: u32) -> u32
-    requires { first_no file.now ≡ Passed }
-    ensures { result ≡ point_location file.now p deck }
+fn locate(file: &[u8], p: Vec2, deck: u32) -> Option<u32>
+    requires { first_no file.now ≡ Ok tt }
+    ensures { result ≡ slice_get (point_layer file.now p deck) 0 }
 {
     let count = decks::deck_count(file);
-    let mut e: usize = 0;
-    'decks: while e < count {
-        let d = e;
-        e += 1;
+    'decks: for d in 0..count {
         if answers::looks_at(deck, d) {
-            if let Hit::At(_, polygon) = hit_on(file, p, d) {
-                return decks::packed(d, polygon);
+            if let Some(hit) = hit_on(file, p, d) {
+                return Some(decks::packed(d, hit.polygon));
             }
         }
     }
-    0xFFFF_FFFF
+    None
 }
 
-pub fn get_point_location(file: &[u8], p: Vec2, deck: u32) -> Location
+// The packed polygon, all ones where there is none.
+pub fn get_point_location(file: &[u8], p: Vec2, deck: u32) -> Result<u32, Refusal>
     ensures { result ≡ location_of file.now p deck }
 {
-    match point_check(file, p) {
-        Check::No(number) => Location::Refused(number),
-        Check::Passed => Location::Found(locate(file, p, deck)),
-    }
+    point_check(file, p)?;
+    Ok(locate(file, p, deck).unwrap_or(words::ALL_ONES))
 }
 
 // The polygons of all decks that have one, at the front of a list with room for one a deck. How many they are is returned.
 fn list_layers(file: &[u8], p: Vec2, deck: u32, list: &mut [u8]) -> usize
-    requires { (first_no file.now ≡ Passed) × (1024 ≤ length list.old) }
+    requires { (first_no file.now ≡ Ok tt) × (1024 ≤ length list.old) }
     ensures { (result ≡ length (point_layer file.now p deck)) × ((4 * result ≤ length list.new)
         × (take (4 * result) list.new ≡ words_of (point_layer file.now p deck))) }
 {
     let count = decks::deck_count(file);
     let mut n: usize = 0;
-    let mut e: usize = 0;
-    'decks: while e < count {
-        let d = e;
-        e += 1;
-        if answers::looks_at(deck, d) {
-            if let Hit::At(_, polygon) = hit_on(file, p, d) {
-                words::put_u32(list, NUMBER_SIZE * n, decks::packed(d, polygon));
-                n += 1;
-            }
+    'decks: for d in 0..count {
+        if !answers::looks_at(deck, d) {
+            continue;
         }
+        let Some(hit) = hit_on(file, p, d) else {
+            continue;
+        };
+        words::put_u32(list, NUMBER_SIZE * n, decks::packed(d, hit.polygon));
+        n += 1;
     }
     n
 }
@@ -116,25 +98,19 @@ fn list_layers(file: &[u8], p: Vec2, deck: u32, list: &mut [u8]) -> usize
 pub fn get_point_layer(file: &[u8], p: Vec2, deck: u32, out: &mut [u8]) -> Answer
     ensures { LayerReplied file.now p deck out.old out.new result }
 {
-    match point_check(file, p) {
-        Check::No(number) => return Answer::Refused(number),
-        Check::Passed => {}
-    }
+    point_check(file, p)?;
     let mut list = [0u8; 1024];
     let count = list_layers(file, p, deck, &mut list);
     if !answers::room_for(NUMBER_SIZE, count, out.len()) {
-        return Answer::Refused(20);
+        return Err(Refusal::NoRoom);
     }
     words::put_front(&list, NUMBER_SIZE * count, out);
-    Answer::Wrote(count)
+    Ok(count)
 }
 
 // The location over C: the packed polygon, or minus the question's number.
-pub fn code(location: Location) -> i64
-    ensures { result ≡ location_code location }
+pub fn code(location: Result<u32, Refusal>) -> i64
+    ensures { result ≡ code_of location }
 {
-    match location {
-        Location::Found(polygon) => answers::code(Answer::Wrote(polygon as usize)),
-        Location::Refused(number) => answers::code(Answer::Refused(number)),
-    }
+    answers::code(location.map(|polygon| polygon as usize))
 }

@@ -1,17 +1,18 @@
 -- The count with no list: how often to double, the midpoints of a chain, the earlier numbers that may reach one, and those that stay.
-use Prim.Native.Nat.{ℕ, suc, ◌+◌, ◌*◌, ◌-◌, ◌/◌, ◌^◌, ◌≤◌, ◌<◌}
+use Prim.Native.Nat.{ℕ, zero, suc, ◌+◌, ◌-◌, ◌^◌, ◌≤◌, ◌<◌}
 use native.Mathlib.Omega.{arith}
-use native.Mathlib.Nat.{two-pow-succ, mul-le-mul_left}
-use native.Mathlib.Numerals.{add-one}
 use mathlib.Core.Path.{◌≡◌, refl, sym, ap, ◌∙◌}
-use mathlib.Core.Bool.{Bool, true, false, not}
-use mathlib.Core.List.{List, [], ◌∷◌}
+use mathlib.Core.Bool.{Bool, true, false, not, cond}
+use mathlib.Core.List.{List, [], ◌∷◌, ◌++◌}
 use lib.Dec.{T}
 use lib.IntN.{ℤ}
 use lib.ListN.{length, get_or}
+use lib.Count.{count_leading_zeros, leading_length}
+use borrow.Author.Tests.{not-true, not-false}
+use Rattle.std.specs.Prelude.{filter}
+use Rattle.std.specs.List.{range_with_len}
 use Rattle.words.specs.Rows.{has, collect}
 use Rattle.words.proofs.TableRows.{Sought, sought_all, sought_none, sought_more, sought_stop}
-use Rattle.words.proofs.Collecting.{collect_yes, collect_no, collect_none}
 use Rattle.ship.specs.Decode.{decode}
 use Rattle.survey.specs.declared.Seat.{Seat}
 use Rattle.touching.specs.Touching.{touches, TouchReady}
@@ -22,25 +23,11 @@ use Rattle.numbering.specs.Numbers.{step_numbers, step_reach, step_drops, step_m
 use Rattle.numbering.proofs.Numbers.{numbers_there}
 
 -- ---- `doublings`
-pub record Halved (n k left : ℕ) : Type 0 where
-  pub small : n < 2 ^ k * (left + 1)
-  pub few : k + left ≤ n
-
-pub halved_start : {n : ℕ} → Halved n 0 n
-halved_start {n} = record { small = omega arith; few = omega arith }
-
-module _ {n k left : ℕ} (h : Halved n k left) where
-  pub halved_more : 0 < left → Halved n (k + 1) (left / 2)
-  halved_more some =
-      let l = h.small in
-      let e : 2 ^ (k + 1) ≡ 2 ^ k + 2 ^ k = rw add-one (two-pow-succ k) in
-      let m : 2 ^ k * (left + 1) ≤ 2 ^ k * (2 * (left / 2 + 1)) = mul-le-mul_left (2 ^ k) (omega arith) in
-      record { small = rw e (omega arith); few = omega (arith, h.few) }
-
-  pub halved_none : left ≤ 0 → n ≤ 2 ^ k
-  halved_none z = let e : left ≡ 0 = omega arith in let m : n < 2 ^ k * (0 + 1) = rw e at h.small in omega arith
-
-pub ruleset halving = (halved_start, halved_more, halved_none)
+pub doubled : {n : ℕ} → n < 2 ^ 64 → n ≤ 2 ^ (64 - count_leading_zeros 64 n)
+doubled {n} small =
+    let l = leading_length 64 n small in
+    let e : 64 - count_leading_zeros 64 n ≡ l.0 = omega (arith, l.1) in
+    rw e (omega (arith, l.2))
 
 -- ---- `reach_within`: none of the first m numbers is a midpoint
 pub record Tried (file blocked : List ℕ) (seat : Seat) (s k a b m : ℕ) : Type 0 where
@@ -85,13 +72,15 @@ module _ {file blocked : List ℕ} {table : List ℤ} {seat : Seat} {s count a b
       below : m < length (step_numbers file blocked seat s)
       below = omega (arith, ready.counted.counts)
 
-      pub tried_first : r ≡ false → Tried file blocked seat s k a b (m + 1)
-      tried_first f = let e : step_reach file blocked seat s (2 ^ (k - 1)) a (get_or (step_numbers file blocked seat s) m 0) ≡ false = rw (← is) (sym first ∙ f) in record { sought = sought_more t.sought below refl (rw e) }
+      pub tried_first : not r ≡ true → Tried file blocked seat s k a b (m + 1)
+      tried_first f =
+          let e : step_reach file blocked seat s (2 ^ (k - 1)) a (get_or (step_numbers file blocked seat s) m 0) ≡ false = rw (← is) (sym first ∙ not-true r f) in
+          record { sought = sought_more t.sought below refl (rw e) }
 
-      module _ (yes-first : r ≡ true) {q : Bool} (second : q ≡ step_reach file blocked seat s (2 ^ (k - 1)) c b) where
+      module _ (yes-first : not r ≡ false) {q : Bool} (second : q ≡ step_reach file blocked seat s (2 ^ (k - 1)) c b) where
         both : through (touches (decode file)) (step_numbers file blocked seat s) (k - 1) a b m ≡ q
         both =
-            let e : step_reach file blocked seat s (2 ^ (k - 1)) a (get_or (step_numbers file blocked seat s) m 0) ≡ true = rw (← is) (sym first ∙ yes-first) in
+            let e : step_reach file blocked seat s (2 ^ (k - 1)) a (get_or (step_numbers file blocked seat s) m 0) ≡ true = rw (← is) (sym first ∙ not-false r yes-first) in
             let f : step_reach file blocked seat s (2 ^ (k - 1)) (get_or (step_numbers file blocked seat s) m 0) b ≡ q = rw (← is) (sym second) in
             rw (e, f)
 
@@ -141,39 +130,25 @@ unreached_none t h = sought_none t.sought h
 
 pub ruleset earlier = (drop_reach, unreached_all, unreached_more, unreached_found, unreached_none)
 
--- ---- `count_by_midpoints`: so many of the first j numbers stay
-abbrev stays : List ℕ → List ℕ → Seat → ℕ → ℕ → Bool
-stays file blocked seat s j = not (step_drops file blocked seat s j)
+-- ---- `count_by_midpoints`: the numbers that stay, counted over their places
+module _ (file blocked : List ℕ) (seat : Seat) (s : ℕ) where
+  abbrev pub stays : ℕ → Bool
+  stays j = not (step_drops file blocked seat s j)
 
-abbrev staying : List ℕ → List ℕ → Seat → ℕ → ℕ → List ℕ
-staying file blocked seat s j =
-    collect (stays file blocked seat s) (λ i. get_or (step_numbers file blocked seat s) i 0 ∷ []) j (length (step_numbers file blocked seat s) - j)
+  abbrev number : ℕ → List ℕ
+  number j = get_or (step_numbers file blocked seat s) j 0 ∷ []
 
-pub record Staying (file blocked : List ℕ) (seat : Seat) (s stay j : ℕ) : Type 0 where
-  pub same : length (step_merged file blocked seat s) ≡ stay + length (staying file blocked seat s j)
-  pub few : stay ≤ j
+  stay_count : (n i : ℕ) → length (collect stays number i n) ≡ length (filter stays (range_with_len i n))
+  unfolding collect
+  stay_count zero i = refl
+  stay_count (suc n) i = go (stays i) (stay_count n (i + 1))
+    where
+      go : (t : Bool) → length (collect stays number (i + 1) n) ≡ length (filter stays (range_with_len (i + 1) n))
+          → length (cond t (number i ++ collect stays number (i + 1) n) (collect stays number (i + 1) n))
+          ≡ length (cond t (i ∷ filter stays (range_with_len (i + 1) n)) (filter stays (range_with_len (i + 1) n)))
+      go true h = rw h
+      go false h = h
 
-pub staying_all : {file blocked : List ℕ} {seat : Seat} {s : ℕ} → Staying file blocked seat s 0 0
-unfolding merged
-staying_all {file} {blocked} {seat} {s} =
-    let e : length (step_numbers file blocked seat s) - 0 ≡ length (step_numbers file blocked seat s) = omega arith in
-    record { same = rw e (omega arith); few = omega arith }
-
-module _ {file blocked : List ℕ} {seat : Seat} {s stay j count : ℕ} (h : Staying file blocked seat s stay j) (counts : count ≡ length (step_numbers file blocked seat s)) where
-  pub staying_none : count ≤ j → stay ≡ length (step_merged file blocked seat s)
-  staying_none l =
-      let e = collect_none (stays file blocked seat s) (λ i. get_or (step_numbers file blocked seat s) i 0 ∷ []) j (length (step_numbers file blocked seat s)) (omega arith) in
-      omega (arith, h.same, ap length e)
-
-  module _ (below : j < count) {r : Bool} (asked : r ≡ step_drops file blocked seat s j) where
-    pub staying_drops : not r ≡ false → Staying file blocked seat s stay (j + 1)
-    staying_drops f =
-        let e = collect_no (stays file blocked seat s) (λ i. get_or (step_numbers file blocked seat s) i 0 ∷ []) j (length (step_numbers file blocked seat s)) (omega arith) (ap not (sym asked) ∙ f) in
-        record { same = omega (arith, h.same, ap length e); few = omega (arith, h.few) }
-
-    pub staying_stays : not r ≡ true → Staying file blocked seat s (stay + 1) (j + 1)
-    staying_stays f =
-        let e = collect_yes (stays file blocked seat s) (λ i. get_or (step_numbers file blocked seat s) i 0 ∷ []) j (length (step_numbers file blocked seat s)) (omega arith) (ap not (sym asked) ∙ f) in
-        record { same = omega (arith, h.same, ap length e); few = omega (arith, h.few) }
-
-pub ruleset counting = (staying_all, staying_none, staying_drops, staying_stays)
+  pub merged_count : length (filter stays (range_with_len 0 (length (step_numbers file blocked seat s)))) ≡ length (step_merged file blocked seat s)
+  unfolding merged
+  merged_count = sym (stay_count (length (step_numbers file blocked seat s)) 0)

@@ -9,7 +9,6 @@ use lib.IntN.{ℤ}
 use lib.ListN.{length, get_or, length-map, get_or-eq_default, get_or-map}
 use Rattle.words.specs.Bytes.{bytes4, words_of, splice}
 use Rattle.words.proofs.Writing.{Rest, rest_all, rest_more, rest_none, length_bytes4}
-use Rattle.answers.specs.declared.Check.TheVariants.{Passed}
 use Rattle.hits.specs.declared.Candidate.{Candidate}
 use Rattle.ship.specs.Layout.{number_size}
 use Rattle.ship.specs.Packed.{packed_of}
@@ -23,12 +22,13 @@ use Rattle.walking.specs.Walk.{WalkedStep, WalkedAfter}
 use Rattle.walking.proofs.ShownLaws.{few_candidates}
 use Rattle.walking.proofs.Passing.{nowhere, Passing, passing_all, passing_ended, passing_below, passing_here, passing_more, passing}
 use Rattle.numbering.specs.Numbers.{packed_candidate, step_numbers, NumbersFit}
+use Rattle.std.specs.Prelude.{Ok}
 
 pub numbers_length : (file blocked : List ℕ) (seat : Seat) (s : ℕ) → length (step_numbers file blocked seat s) ≡ length (candidates (seen_by file blocked seat) s)
 unfolding step_numbers
 numbers_length file blocked seat s = length-map (candidates (seen_by file blocked seat) s) packed_candidate
 
-pub few_numbers : (file blocked : List ℕ) (seat : Seat) (s : ℕ) → first_no file ≡ Passed → length (step_numbers file blocked seat s) ≤ 4294967040
+pub few_numbers : (file blocked : List ℕ) (seat : Seat) (s : ℕ) → first_no file ≡ Ok tt → length (step_numbers file blocked seat s) ≤ 4294967040
 few_numbers file blocked seat s passed = omega (arith, numbers_length file blocked seat s, few_candidates file blocked seat s passed)
 
 -- ---- the walk passed the first n candidates: their numbers

@@ -8,7 +8,6 @@ use lib.Dec.{T}
 use lib.ListN.{length, get_or, length-map, get_or-map}
 use Rattle.words.specs.Rows.{has}
 use Rattle.words.proofs.Collecting.{In, Rising}
-use Rattle.answers.specs.declared.Check.TheVariants.{Passed}
 use Rattle.hits.specs.declared.Candidate.{Candidate}
 use Rattle.ship.specs.Layout.{decks_in}
 use Rattle.ship.specs.Questions.{first_no}
@@ -24,6 +23,7 @@ use Rattle.walking.specs.Sees.{seen_by}
 use Rattle.walking.proofs.ShownLaws.{polygons_shown, polygons_few}
 use Rattle.walking.proofs.Passing.{nowhere}
 use Rattle.numbering.specs.Numbers.{packed_candidate, step_numbers}
+use Rattle.std.specs.Prelude.{Ok}
 
 -- ---- a list by its places
 in_at : {A : Type 0} (l : List A) (d : A) (k : ℕ) → k < length l → In (get_or l k d) l
@@ -53,7 +53,7 @@ module _ (file blocked : List ℕ) (seat : Seat) (s j : ℕ) (below : j < length
   pub is_candidate : IsCandidate (seen_by file blocked seat) s candidate_at
   is_candidate = of_candidates (seen_by file blocked seat) s candidate_at (in_at (candidates (seen_by file blocked seat) s) nowhere j below_candidates)
 
-  module _ (passed : first_no file ≡ Passed) where
+  module _ (passed : first_no file ≡ Ok tt) where
     pub candidate_polygon : candidate_at.polygon < 2 ^ 24
     candidate_polygon = omega (arith, is_candidate.passes.0, polygons_few file passed seat.place candidate_at.deck)
 
@@ -65,15 +65,15 @@ module _ (file blocked : List ℕ) (seat : Seat) (s j : ℕ) (below : j < length
         rw number_is
         (record {
           deck = rw d deck;
-          polygon = rw (d, k) (omega (arith, is_candidate.passes.0, polygons_shown file deck refl seat.place));
+          polygon = rw (d, k) (omega (arith, is_candidate.passes.0, polygons_shown file candidate_at.deck seat.place));
         })
 
-pub numbers_there : (file blocked : List ℕ) (seat : Seat) (s a : ℕ) → first_no file ≡ Passed → T (has (step_numbers file blocked seat s) a) → PolygonThere file a
+pub numbers_there : (file blocked : List ℕ) (seat : Seat) (s a : ℕ) → first_no file ≡ Ok tt → T (has (step_numbers file blocked seat s) a) → PolygonThere file a
 numbers_there file blocked seat s a passed t =
     let r = has_which (step_numbers file blocked seat s) a t in
     subst (PolygonThere file) r.2 (number_there file blocked seat s r.0 r.1 passed)
 
-pub numbers_rise : (file blocked : List ℕ) (seat : Seat) (s : ℕ) → first_no file ≡ Passed → (j k : ℕ) → j < k → k < length (step_numbers file blocked seat s)
+pub numbers_rise : (file blocked : List ℕ) (seat : Seat) (s : ℕ) → first_no file ≡ Ok tt → (j k : ℕ) → j < k → k < length (step_numbers file blocked seat s)
     → get_or (step_numbers file blocked seat s) j 0 < get_or (step_numbers file blocked seat s) k 0
 numbers_rise file blocked seat s passed j k h m =
     let v = seen_by file blocked seat in

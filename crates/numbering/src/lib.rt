@@ -28,6 +28,7 @@ pub fn put_numbers(
     let mut near = [0u32; NEAR_SIZE];
     let mut n: usize = 0;
     let mut next = walking::first(file, blocked, table, seat, s, kept, &mut near);
+    // A loop: a walk is lent its arrays at each step, so it is no iterator.
     'candidates: loop {
         match next {
             Next::Ended(_) => return,
@@ -56,6 +57,7 @@ fn number_at(
     let mut near = [0u32; NEAR_SIZE];
     let mut n: usize = 0;
     let mut next = walking::first(file, blocked, table, seat, s, kept, &mut near);
+    // A loop: a walk is lent its arrays at each step, so it is no iterator.
     'candidates: loop {
         match next {
             Next::Ended(_) => return 0,
@@ -74,13 +76,7 @@ fn number_at(
 fn doublings(n: usize) -> usize
     ensures { n ≤ 2 ^ result }
 {
-    let mut k: usize = 0;
-    let mut left = n;
-    'halves: while left > 0 {
-        left = left / 2;
-        k += 1;
-    }
-    k
+    (usize::BITS - n.leading_zeros()) as usize
 }
 
 // Whether at most 2^k hops lead from a to b: through any number of the step as midpoint, two chains of half as many.
@@ -105,15 +101,14 @@ fn reach_within(
     if k == 0 {
         return touching::touches(file, a, b);
     }
-    let mut m: usize = 0;
-    'midpoints: while m < count {
-        let at = m;
-        m += 1;
-        let c = number_at(file, blocked, table, seat, s, at, kept);
-        if reach_within(file, blocked, table, seat, s, count, k - 1, a, c, kept) {
-            if reach_within(file, blocked, table, seat, s, count, k - 1, c, b, kept) {
-                return true;
-            }
+    // A for, and no closure: it calls its own function.
+    'midpoints: for m in 0..count {
+        let c = number_at(file, blocked, table, seat, s, m, kept);
+        if !reach_within(file, blocked, table, seat, s, count, k - 1, a, c, kept) {
+            continue;
+        }
+        if reach_within(file, blocked, table, seat, s, count, k - 1, c, b, kept) {
+            return true;
         }
     }
     false
@@ -135,10 +130,9 @@ fn drops_out(
     ensures { result ≡ step_drops file.now blocked.now seat s j }
 {
     let b = number_at(file, blocked, table, seat, s, j, kept);
-    let mut i: usize = 0;
-    'earlier: while i < j {
+    // A for: a closure's promise would not say that i is below j.
+    'earlier: for i in 0..j {
         let a = number_at(file, blocked, table, seat, s, i, kept);
-        i += 1;
         if reach_within(file, blocked, table, seat, s, count, k, a, b, kept) {
             return true;
         }
@@ -161,14 +155,7 @@ pub fn count_by_midpoints(
     ensures { result ≡ length (step_merged file.now blocked.now seat s) }
 {
     let k = doublings(count);
-    let mut stay: usize = 0;
-    let mut j: usize = 0;
-    'numbers: while j < count {
-        let at = j;
-        j += 1;
-        if !drops_out(file, blocked, table, seat, s, count, k, at, kept) {
-            stay += 1;
-        }
-    }
-    stay
+    (0..count)
+        .filter(|j| !drops_out(file, blocked, table, seat, s, count, k, *j, kept))
+        .count()
 }

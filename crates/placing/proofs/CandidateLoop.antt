@@ -11,7 +11,6 @@ use lib.ListN.{length}
 use Rattle.geometry.specs.declared.Vec2.{Vec2}
 use Rattle.geometry.specs.declared.Height.{Height}
 use Rattle.geometry.specs.Bounds.{PointWithin}
-use Rattle.answers.specs.declared.Check.TheVariants.{Passed}
 use Rattle.hits.specs.declared.Candidate.{Candidate}
 use Rattle.ship.specs.Layout.{steps_in}
 use Rattle.ship.specs.Questions.{first_no}
@@ -24,21 +23,21 @@ use Rattle.walking.specs.Lists.{WalkReady}
 use Rattle.walking.specs.Walk.{candidates_after, tried_after, left_of, left_tried, NextIn, WalkedStep, WalkedAfter}
 use Rattle.walking.proofs.ShownLaws.{candidate_within, few_tried, few_candidates, step_few}
 use Rattle.walking.proofs.Walks.{walk_file, walk_passed}
-use Rattle.placing.specs.declared.Best.TheVariants.{NoneYet}
 use Rattle.placing.specs.declared.Tally.{Tally}
-use Rattle.placing.specs.Tally.{best_from, start_of, take_with, step_tally, BestWithin, TallyWithin}
+use Rattle.placing.specs.Tally.{shown_choice, best_from, start_of, take_with, step_tally, BestWithin, TallyWithin}
 use Rattle.placing.proofs.Choosing.{chosen_within}
+use Rattle.std.specs.Prelude.{Ok, None}
 
 -- the candidates before those that are left are taken in
 pub record Taking (file blocked : List ℕ) (seat : Seat) (s tried : ℕ) (tally : Tally) (next : Next) : Type 0 where
-  pub passed : first_no file ≡ Passed
+  pub passed : first_no file ≡ Ok tt
   pub place_within : PointWithin 1000000 seat.place
   pub step_below : s < 16
   pub few : tried ≤ 38656 * s
   pub next_in : NextIn file next
   pub tried_is : tally.tried + left_tried (seen_by file blocked seat) next ≡ tried + tried_in (seen_by file blocked seat) s
   pub count_is : tally.candidates + length (left_of (seen_by file blocked seat) next) ≡ length (candidates (seen_by file blocked seat) s)
-  pub best_is : best_from (seen_by file blocked seat) tally.best (left_of (seen_by file blocked seat) next) ≡ best_from (seen_by file blocked seat) NoneYet (candidates (seen_by file blocked seat) s)
+  pub best_is : best_from (seen_by file blocked seat) tally.best (left_of (seen_by file blocked seat) next) ≡ best_from (seen_by file blocked seat) None (candidates (seen_by file blocked seat) s)
   pub best_within : BestWithin tally.best
 
 pub taking_all : {file blocked : List ℕ} {table : List ℤ} {seat : Seat} {array : List ℕ} {s tried : ℕ} {next : Next} → WalkReady file blocked table seat array
@@ -79,7 +78,7 @@ module _ {file blocked : List ℕ} {seat : Seat} {s tried : ℕ} {tally : Tally}
     unfolding step_tally best_from
     taking_ended =
         let count : tally.candidates ≡ length (candidates (seen_by file blocked seat) s) = omega (arith, count_end) in
-        let best : tally.best ≡ best_from (seen_by file blocked seat) NoneYet (candidates (seen_by file blocked seat) s) = rw e at h.best_is in
+        let best : tally.best ≡ best_from (seen_by file blocked seat) None (candidates (seen_by file blocked seat) s) = rw e at h.best_is in
         rw (tried_end, count, best)
 
     pub ended_within : TallyWithin (s + 1) (record { tried = tally.tried + n; candidates = tally.candidates; best = tally.best })
@@ -108,7 +107,8 @@ module _ {file blocked : List ℕ} {seat : Seat} {s tried : ℕ} {tally : Tally}
     count_room = omega (arith, count_more, count_small)
 
     module _ {place : Vec2} {g : Height} {tally' : Tally} {next' : Next} (at : place ≡ (shown_by file seat.place).place c)
-        (measured : g ≡ (shown_by file seat.place).height c) (took : tally' ≡ take_with seat.wish tally n c place g) (w : WalkedAfter file (seen_by file blocked seat) c next') where
+        (measured : g ≡ (shown_by file seat.place).height c)
+        (took : tally' ≡ take_with seat.wish tally n (record { candidate = c; place = place; height = g })) (w : WalkedAfter file (seen_by file blocked seat) c next') where
       pub taking_less : length (left_of (seen_by file blocked seat) next') < length (left_of (seen_by file blocked seat) next)
       taking_less = rw (e, ← w.left_is) (omega arith)
 
@@ -127,7 +127,7 @@ module _ {file blocked : List ℕ} {seat : Seat} {s tried : ℕ} {tally : Tally}
             count_is = rw (← w.left_is) (omega (arith, count_more));
             best_is = rw (← w.left_is) (rw e at h.best_is);
             best_within =
-                chosen_within seat.wish tally.best c (v.shown.place c) (v.shown.height c) h.best_within
+                chosen_within seat.wish tally.best (shown_choice v c) h.best_within
                 (candidate_within h.passed taking_in h.place_within);
           })
 

@@ -5,8 +5,6 @@ use mathlib.Core.List.{List, [], ◌∷◌}
 use native.Mathlib.Omega.{arith}
 use native.Mathlib.Numerals.{add-one}
 use lib.ListN.{length}
-use Rattle.geometry.specs.declared.Vec2.{Vec2}
-use Rattle.geometry.specs.declared.Height.{Height}
 use Rattle.records.specs.declared.SeatRecord.{SeatRecord}
 use Rattle.records.specs.Record.{unplaced_record}
 use Rattle.hits.specs.declared.Candidate.{Candidate}
@@ -20,10 +18,11 @@ use Rattle.survey.specs.Search.{candidates, tried_in, tried_before, best_of, fir
 use Rattle.survey.proofs.Loops.{first_step_yes, first_step_no, first_step_none}
 use Rattle.walking.specs.Sees.{seen_by, CandidateWithin}
 use Rattle.walking.proofs.Walks.{walk_passed}
-use Rattle.placing.specs.declared.Best.TheVariants.{NoneYet, Chosen}
+use Rattle.std.specs.Prelude.{Some, None}
+use Rattle.placing.specs.declared.Choice.{Choice}
 use Rattle.placing.specs.declared.Tally.{Tally}
-use Rattle.placing.specs.Tally.{best_from, step_tally, BestWithin, TallyWithin, CountsWithin}
-use Rattle.placing.proofs.Choosing.{chosen_at, best_from_none}
+use Rattle.placing.specs.Tally.{shown_choice, best_from, step_tally, BestWithin, TallyWithin, CountsWithin}
+use Rattle.placing.proofs.Choosing.{best_from_none}
 
 -- the steps below s have no candidate
 pub record Searching (file blocked : List ℕ) (seat : Seat) (tried s : ℕ) : Type 0 where
@@ -37,11 +36,11 @@ searching_all file blocked seat =
     let e : (decode file).steps - 0 ≡ (decode file).steps = omega arith in
     record { same = rw e; before = refl; few = omega arith }
 
-none_chosen : {c : Candidate} {place : Vec2} {g : Height} → NoneYet ≡ Chosen c place g → ⊥
-none_chosen e = let z : ◌≡◌ {A = ℕ} 0 1 = cc in omega arith
+none_some : {choice : Choice} → None ≡ Some choice → ⊥
+none_some e = let z : ◌≡◌ {A = ℕ} 0 1 = cc in omega arith
 
 module _ {m : ℕ} {t : Tally} (w : TallyWithin m t) where
-  pub best_placed : {c : Candidate} {place : Vec2} {g : Height} → t.best ≡ Chosen c place g → CandidateWithin c place g
+  pub best_placed : {choice : Choice} → t.best ≡ Some choice → CandidateWithin choice.candidate choice.place choice.height
   best_placed e = subst BestWithin e w.best_within
 
   pub counts_within : m ≤ 16 → CountsWithin t.tried t.candidates
@@ -68,7 +67,7 @@ module _ {file blocked : List ℕ} {seat : Seat} {tried s n : ℕ} (h : Searchin
     unfolding tried_before step_tally
     tried_next = rw taken (ap (λ (m : ℕ). m + tried_in (seen_by file blocked seat) s) h.before)
 
-    best_next : t.best ≡ best_from (seen_by file blocked seat) NoneYet (candidates (seen_by file blocked seat) s)
+    best_next : t.best ≡ best_from (seen_by file blocked seat) None (candidates (seen_by file blocked seat) s)
     unfolding step_tally
     best_next = rw taken
 
@@ -76,7 +75,7 @@ module _ {file blocked : List ℕ} {seat : Seat} {tried s n : ℕ} (h : Searchin
     unfolding step_tally
     count_next = rw taken
 
-    pub searching_more : t.best ≡ NoneYet → TallyWithin (s + 1) t → Searching file blocked seat t.tried (s + 1)
+    pub searching_more : t.best ≡ None → TallyWithin (s + 1) t → Searching file blocked seat t.tried (s + 1)
     searching_more none w = go (candidates v s) refl
       where
         v : View
@@ -90,26 +89,24 @@ module _ {file blocked : List ℕ} {seat : Seat} {tried s n : ℕ} (h : Searchin
               few = w.tried_within;
             }
         go (c ∷ rest) e =
-            let chosen : t.best ≡ chosen_at v (best_of v c rest) = best_next ∙ rw e (best_from_none v c rest) in
-            absurd (none_chosen (sym none ∙ chosen))
+            let chosen : t.best ≡ Some (shown_choice v (best_of v c rest)) = best_next ∙ rw e (best_from_none v c rest) in
+            absurd (none_some (sym none ∙ chosen))
 
-    pub searching_found : {c : Candidate} {place : Vec2} {g : Height} {r : SeatRecord} → t.best ≡ Chosen c place g
-        → r ≡ record_at_place c place g t.tried t.candidates → r ≡ seat_record (seen_by file blocked seat) (decode file).steps
+    pub searching_found : {choice : Choice} {r : SeatRecord} → t.best ≡ Some choice
+        → r ≡ record_at_place choice.candidate choice.place choice.height t.tried t.candidates → r ≡ seat_record (seen_by file blocked seat) (decode file).steps
     unfolding seat_record best_from
-    searching_found {c} {place} {g} {r} is made = go (candidates v s) refl
+    searching_found {choice} {r} is made = go (candidates v s) refl
       where
         v : View
         v = seen_by file blocked seat
 
         go : (cs : List Candidate) → candidates v s ≡ cs → r ≡ seat_record v (decode file).steps
         go [] e =
-            let none : t.best ≡ NoneYet = best_next ∙ rw e in
-            absurd (none_chosen (sym none ∙ is))
+            let none : t.best ≡ None = best_next ∙ rw e in
+            absurd (none_some (sym none ∙ is))
         go (first ∷ rest) e =
-            let chosen : t.best ≡ chosen_at v (best_of v first rest) = best_next ∙ rw e (best_from_none v first rest) in
-            let same-c : c ≡ best_of v first rest = cc in
-            let same_place : place ≡ v.shown.place (best_of v first rest) = cc in
-            let same-height : g ≡ v.shown.height (best_of v first rest) = cc in
-            made ∙ rw (h.same, first_step_yes v s (decode file).steps first rest (omega arith) e, same-c, same_place, same-height, tried_next, count_next, e)
+            let chosen : t.best ≡ Some (shown_choice v (best_of v first rest)) = best_next ∙ rw e (best_from_none v first rest) in
+            let same : choice ≡ shown_choice v (best_of v first rest) = cc in
+            made ∙ rw (h.same, first_step_yes v s (decode file).steps first rest (omega arith) e, same, tried_next, count_next, e)
 
 pub ruleset searching = (walk_passed, step_in, searching_all, best_placed, counts_within, searching_few, searching_none, searching_more, searching_found)

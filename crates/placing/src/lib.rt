@@ -1,7 +1,7 @@
 // The search of one seat over a ship file: the candidates of the first step with any, and the one that the seat takes (document 01, section 7).
 #![tactic(auto)]
 
-ghost use Rattle.std.specs.Prelude.{◌≡◌, [], ◌∷◌, ◌+◌, ◌*◌, ◌^◌, ◌≤◌, ◌<◌};
+ghost use Rattle.std.specs.Prelude.{◌≡◌, ◌+◌, ◌*◌, ◌^◌, ◌≤◌, ◌<◌};
 ghost use Rattle.geometry.specs.Bounds.{HeightWithin};
 ghost use Rattle.records.specs.Record.{unplaced_record};
 ghost use Rattle.ship.specs.Layout.{steps_in};
@@ -19,46 +19,47 @@ use records::SeatRecord;
 use survey::{Seat, Wish};
 use walking::Next;
 
-// The candidate that is chosen so far, where it lies, and the height there.
-#[derive(Clone, Copy)]
-pub enum Best {
-    NoneYet,
-    Chosen(Candidate, Vec2, Height),
+// A candidate, where it lies, and the height there.
+#[derive(Clone, Copy, Debug, PartialEq)]
+pub struct Choice {
+    pub candidate: Candidate,
+    pub place: Vec2,
+    pub height: Height,
 }
 
-// Samples tried, and the candidates of the step so far.
-#[derive(Clone, Copy)]
+// Samples tried, and the candidates of the step so far: how many, and the one that is chosen.
+#[derive(Clone, Copy, Debug, PartialEq)]
 pub struct Tally {
     pub tried: usize,
     pub candidates: usize,
-    pub best: Best,
+    pub best: Option<Choice>,
 }
 
-fn choose(wish: Wish, best: Best, c: Candidate, place: Vec2, height: Height) -> Best
-    ensures { result ≡ choose_with wish best c place height }
+#[tactic(auto, using(crate::proofs::Choosing::chooses))]
+fn choose(wish: Wish, best: Option<Choice>, next: Choice) -> Option<Choice>
+    ensures { result ≡ choose_with wish best next }
 {
     match best {
-        Best::NoneYet => Best::Chosen(c, place, height),
-        Best::Chosen(b, at, g) => {
-            if survey::prefers_height(wish, height, g) {
-                Best::Chosen(c, place, height)
+        None => Some(next),
+        Some(chosen) => {
+            if survey::prefers_height(wish, next.height, chosen.height) {
+                Some(next)
             } else {
-                Best::Chosen(b, at, g)
+                Some(chosen)
             }
         }
     }
 }
 
 // One candidate more, after so many samples more.
-fn take(wish: Wish, t: Tally, tried: usize, c: Candidate, place: Vec2, height: Height) -> Tally
+fn take(wish: Wish, t: Tally, tried: usize, next: Choice) -> Tally
     requires { (t.tried + tried < 2 ^ 63) × (t.candidates < 2 ^ 63) }
-    ensures { result ≡ take_with wish t tried c place height }
+    ensures { result ≡ take_with wish t tried next }
 {
-    let best = t.best;
     Tally {
         tried: t.tried + tried,
         candidates: t.candidates + 1,
-        best: choose(wish, best, c, place, height),
+        best: choose(wish, t.best, next),
     }
 }
 
@@ -81,58 +82,56 @@ fn take_step(
     let mut tally = Tally {
         tried,
         candidates: 0,
-        best: Best::NoneYet,
+        best: None,
     };
     let mut next = walking::first(file, blocked, table, seat, s, kept, near);
+    // A loop: a walk is lent its arrays at each step, so it is no iterator.
     'candidates: loop {
         match next {
             Next::Ended(n) => {
-                let best = tally.best;
                 return Tally {
                     tried: tally.tried + n,
-                    candidates: tally.candidates,
-                    best,
+                    ..tally
                 };
             }
-            Next::Reached(c, n) => {
-                let place = walking::place_of(file, table, seat.place, c);
-                let height = walking::height_of(file, table, seat.place, c);
-                tally = take(wish, tally, n, c, place, height);
-                next = walking::after(file, blocked, table, seat, c, kept, near);
+            Next::Reached(candidate, n) => {
+                let choice = Choice {
+                    candidate,
+                    place: walking::place_of(file, table, seat.place, candidate),
+                    height: walking::height_of(file, table, seat.place, candidate),
+                };
+                tally = take(wish, tally, n, choice);
+                next = walking::after(file, blocked, table, seat, candidate, kept, near);
             }
         }
     }
 }
 
 // A height's kind, and its bits or 0.
-fn height_words(height: Height) -> [u32; 2]
+#[tactic(auto, using(crate::proofs::SeatRecords::heights))]
+fn height_words(height: Height) -> (u32, u32)
     requires { HeightWithin (2 ^ 121) height }
-    ensures { result ≡ height_kind height ∷ height_bits height ∷ [] }
+    ensures { result ≡ (height_kind height, height_bits height) }
 {
     match height {
-        Height::None => [0, 0],
-        Height::Known(h) => [1, f32::to_bits(h)],
+        Height::None => (0, 0),
+        Height::Known(h) => (1, h.to_bits()),
     }
 }
 
-// The record of a seat that takes c.
-fn placed_record(
-    c: Candidate,
-    place: Vec2,
-    height: Height,
-    tried: usize,
-    candidates: usize,
-) -> SeatRecord
-    requires { CandidateWithin c place height × CountsWithin tried candidates }
-    ensures { result ≡ record_at_place c place height tried candidates }
+// The record of a seat that takes the candidate of a choice.
+fn placed_record(choice: Choice, tried: usize, candidates: usize) -> SeatRecord
+    requires { CandidateWithin choice.candidate choice.place choice.height × CountsWithin tried candidates }
+    ensures { result ≡ record_at_place choice.candidate choice.place choice.height tried candidates }
 {
-    let kind_and_bits = height_words(height);
+    let c = choice.candidate;
+    let (kind, height) = height_words(choice.height);
     SeatRecord {
         polygon: decks::packed(c.deck, c.polygon),
-        x: f32::to_bits(place.x),
-        y: f32::to_bits(place.y),
-        kind: kind_and_bits[0],
-        height: kind_and_bits[1],
+        x: choice.place.x.to_bits(),
+        y: choice.place.y.to_bits(),
+        kind,
+        height,
         step: c.step as u32,
         sample: c.sample as u32,
         tried: tried as u32,
@@ -146,7 +145,7 @@ fn unplaced_record(tried: usize) -> SeatRecord
     ensures { result ≡ unplaced_record tried }
 {
     SeatRecord {
-        polygon: 0xFFFF_FFFF,
+        polygon: words::ALL_ONES,
         x: 0,
         y: 0,
         kind: 0,
@@ -172,15 +171,12 @@ fn search_steps(
 {
     let steps = decks::steps(file);
     let mut tried: usize = 0;
-    let mut s: usize = 0;
-    'steps: while s < steps {
+    'steps: for s in 0..steps {
         let tally = take_step(file, blocked, table, seat, s, tried, kept, near);
-        let best = tally.best;
-        if let Best::Chosen(c, place, height) = best {
-            return placed_record(c, place, height, tally.tried, tally.candidates);
+        if let Some(choice) = tally.best {
+            return placed_record(choice, tally.tried, tally.candidates);
         }
         tried = tally.tried;
-        s += 1;
     }
     unplaced_record(tried)
 }

@@ -9,11 +9,11 @@ use Rattle.geometry.specs.declared.Vec2.{Vec2}
 use Rattle.geometry.specs.Plane.{zero32}
 use Rattle.geometry.specs.Bounds.{PointWithin}
 use Rattle.direction.specs.Direction.{squared_distance}
-use Rattle.answers.specs.declared.Check.{Check}
-use Rattle.answers.specs.declared.Check.TheVariants.{Passed}
-use Rattle.answers.specs.Checks.{ask, after}
+use Rattle.answers.specs.Checks.{ask, after, Check}
 use Rattle.answers.specs.Questions.{question17}
 use Rattle.answers.proofs.Asking.{asking, asked_yes, both_passed}
+use Rattle.std.specs.Prelude.{Ok}
+use Rattle.answers.specs.declared.Refusal.TheVariants.{CallFloatOutOfRange, NoSuchDeck, NoDirection}
 use Rattle.ship.specs.Layout.{decks_in}
 use Rattle.ship.specs.Questions.{first_no}
 use Rattle.calls.specs.Closest.{question16}
@@ -22,7 +22,7 @@ use Rattle.towards.specs.Towards.{question22, towards_check}
 
 -- ---- `towards_check`
 pub towards_is : (file : List ℕ) (p towards : Vec2) (deck : ℕ) {v : Check}
-    → v ≡ after (first_no file) (ask (question16 p) 16 (ask (question16 towards) 16 (ask (question17 (decks_in file) deck) 17 (ask (question22 p towards) 22 Passed))))
+    → v ≡ after (first_no file) (ask (question16 p) CallFloatOutOfRange (ask (question16 towards) CallFloatOutOfRange (ask (question17 (decks_in file) deck) NoSuchDeck (ask (question22 p towards) NoDirection (Ok tt)))))
     → v ≡ towards_check file p towards deck
 unfolding towards_check
 towards_is file p towards deck e = e
@@ -40,21 +40,21 @@ pub ruleset asks = (asking, towards_is, named_in, level_no, apart_yes)
 
 -- ---- a passed call
 pub record TowardsPassed (file : List ℕ) (p towards : Vec2) (deck : ℕ) : Type 0 where
-  pub file_passed : first_no file ≡ Passed
+  pub file_passed : first_no file ≡ Ok tt
   pub from_within : PointWithin 1000000 p
   pub to_within : PointWithin 1000000 towards
   pub yes17 : question17 (decks_in file) deck ≡ true
   pub apart : eq (squared_distance p towards) zero32 ≡ false
 
 module _ (file : List ℕ) (p towards : Vec2) (deck : ℕ) where
-  pub towards_yes : towards_check file p towards deck ≡ Passed → TowardsPassed file p towards deck
+  pub towards_yes : towards_check file p towards deck ≡ Ok tt → TowardsPassed file p towards deck
   unfolding towards_check question22
   towards_yes e =
       let f = both_passed (first_no file) _ e in
-      let a = asked_yes (question16 p) 16 _ f.1 in
-      let b = asked_yes (question16 towards) 16 _ a.1 in
-      let c = asked_yes (question17 (decks_in file) deck) 17 _ b.1 in
-      let d = asked_yes (question22 p towards) 22 Passed c.1 in
+      let a = asked_yes (question16 p) CallFloatOutOfRange _ f.1 in
+      let b = asked_yes (question16 towards) CallFloatOutOfRange _ a.1 in
+      let c = asked_yes (question17 (decks_in file) deck) NoSuchDeck _ b.1 in
+      let d = asked_yes (question22 p towards) NoDirection (Ok tt) c.1 in
       record {
         file_passed = f.0;
         from_within = size_of_place p a.0;
@@ -64,7 +64,7 @@ module _ (file : List ℕ) (p towards : Vec2) (deck : ℕ) where
       }
 
 -- another file that passes, with as many decks
-pub same_check : (file file' : List ℕ) (p towards : Vec2) (deck : ℕ) → first_no file' ≡ Passed → decks_in file' ≡ decks_in file
-    → towards_check file p towards deck ≡ Passed → towards_check file' p towards deck ≡ Passed
+pub same_check : (file file' : List ℕ) (p towards : Vec2) (deck : ℕ) → first_no file' ≡ Ok tt → decks_in file' ≡ decks_in file
+    → towards_check file p towards deck ≡ Ok tt → towards_check file' p towards deck ≡ Ok tt
 unfolding towards_check
 same_check file file' p towards deck a b e = rw (a, b) (both_passed (first_no file) _ e).1

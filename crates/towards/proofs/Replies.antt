@@ -9,12 +9,10 @@ use Rattle.geometry.specs.declared.Vec2.{Vec2}
 use Rattle.geometry.specs.Plane.{zero32}
 use Rattle.geometry.specs.Bounds.{PointWithin}
 use Rattle.direction.specs.Direction.{squared_distance, direction_of}
-use Rattle.answers.specs.declared.Check.{Check}
-use Rattle.answers.specs.declared.Check.TheVariants.{Passed}
-use Rattle.answers.specs.declared.Answer.{Answer}
-use Rattle.answers.specs.declared.Answer.TheVariants.{Wrote}
-use Rattle.answers.specs.Replies.{Replied}
+use Rattle.answers.specs.Replies.{Replied, Answer}
 use Rattle.answers.proofs.Replying.{replied_refused, replied_none}
+use Rattle.answers.specs.Checks.{Check}
+use Rattle.std.specs.Prelude.{Option, Some, None, Ok}
 use Rattle.ship.specs.Decode.{decode}
 use Rattle.ship.specs.Questions.{first_no}
 use Rattle.ship.proofs.Facts.{steps_range}
@@ -22,8 +20,6 @@ use Rattle.ship.proofs.ModelFacts.{decks_length, steps_in_lem}
 use Rattle.walking.specs.Sees.{shown_from}
 use Rattle.walking.proofs.ShownLaws.{polygons_few}
 use Rattle.towards.specs.declared.Place.{Place}
-use Rattle.towards.specs.declared.Found.{Found}
-use Rattle.towards.specs.declared.Found.TheVariants.{Nowhere, At}
 use Rattle.towards.specs.Towards.{all_given, first_of, towards_check, towards_reply, PlaceReady, place_reply}
 use Rattle.towards.specs.Statement.{SnapSurveyed}
 use Rattle.towards.proofs.Asks.{TowardsPassed, towards_yes}
@@ -31,7 +27,7 @@ use Rattle.towards.proofs.Seeks.{first_in}
 use Rattle.towards.proofs.Order.{of_given}
 use Rattle.towards.proofs.SnapTheorem.{given, closest_none, closest_first, snapped}
 
-module _ (file : List ℕ) (p towards : Vec2) (deck : ℕ) {r : Check} (said : r ≡ towards_check file p towards deck) (passed : r ≡ Passed) where
+module _ (file : List ℕ) (p towards : Vec2) (deck : ℕ) {r : Check} (said : r ≡ towards_check file p towards deck) (passed : r ≡ Ok tt) where
   asked_all : TowardsPassed file p towards deck
   asked_all = towards_yes file p towards deck (sym said ∙ passed)
 
@@ -44,20 +40,20 @@ module _ (file : List ℕ) (p towards : Vec2) (deck : ℕ) {r : Check} (said : r
   pub towards_apart : eq (squared_distance p towards) zero32 ≡ false
   towards_apart = asked_all.apart
 
-  pub towards_file : first_no file ≡ Passed
+  pub towards_file : first_no file ≡ Ok tt
   towards_file = asked_all.file_passed
 
-  module _ {direction : Vec2} (is : direction ≡ direction_of p towards) {found : Found} (first : found ≡ first_of (all_given (decode file) p direction deck)) where
+  module _ {direction : Vec2} (is : direction ≡ direction_of p towards) {found : Option Place} (first : found ≡ first_of (all_given (decode file) p direction deck)) where
     first_of_lem : first_of (given file p towards deck) ≡ found
     first_of_lem = sym (rw is at first)
 
-    pub towards_none : found ≡ Nowhere → {out : List ℕ} → Replied (towards_reply file p towards deck) out out (Wrote 0)
+    pub towards_none : found ≡ None → {out : List ℕ} → Replied (towards_reply file p towards deck) out out (Ok 0)
     towards_none e = replied_none _ _ said passed (closest_none file p towards deck (first_of_lem ∙ e))
 
-    pub snapped_none : found ≡ Nowhere → (out : List ℕ) → SnapSurveyed file p towards deck (Wrote 0) out
+    pub snapped_none : found ≡ None → (out : List ℕ) → SnapSurveyed file p towards deck (Ok 0) out
     snapped_none e out = snapped file p towards deck out (towards_none e)
 
-    module _ {c : Place} (e : found ≡ At c) where
+    module _ {c : Place} (e : found ≡ Some c) where
       -- so that it can be written
       pub towards_ready : PointWithin 2 direction → PlaceReady file p direction c
       unfolding shown_from

@@ -7,11 +7,9 @@ use lib.ListN.{length, take}
 use Rattle.geometry.specs.declared.Vec2.{Vec2}
 use Rattle.direction.specs.Direction.{direction_of}
 use Rattle.words.specs.Bytes.{bytes4, joined}
-use Rattle.answers.specs.declared.Check.TheVariants.{Passed}
-use Rattle.answers.specs.declared.Answer.{Answer}
-use Rattle.answers.specs.declared.Answer.TheVariants.{Wrote}
-use Rattle.answers.specs.Replies.{reply_check, answer_to, output_to, Replied}
+use Rattle.answers.specs.Replies.{reply_check, answer_to, output_to, Replied, Answer}
 use Rattle.answers.proofs.Replying.{check_passed, passed_check, of_reply, answer_passed, output_passed, output_length}
+use Rattle.std.specs.Prelude.{Some, None, Ok}
 use Rattle.ship.specs.Layout.{steps_in}
 use Rattle.ship.specs.Model.{Ship, with_steps}
 use Rattle.ship.specs.Decode.{decode, with_steps_bytes}
@@ -21,7 +19,6 @@ use Rattle.ship.proofs.ModelFacts.{steps_in_lem}
 use Rattle.ship.proofs.RaisedSteps.{raised, raised_decks}
 use Rattle.calls.specs.Closest.{entry_size, entry_bytes}
 use Rattle.towards.specs.declared.Place.{Place}
-use Rattle.towards.specs.declared.Found.TheVariants.{Nowhere, At}
 use Rattle.towards.specs.Towards.{sample_towards, point_towards, step_gives, all_given, place_towards, place_bytes, first_of, towards_check, closest_towards, towards_reply}
 use Rattle.towards.specs.Statement.{NoHit, Snapped, SnapSurveyed, SnapSurveyedCode}
 use Rattle.towards.proofs.Asks.{towards_yes, same_check}
@@ -30,8 +27,8 @@ use Rattle.towards.proofs.Seeks.{taken_none, taken_first, longer}
 use Rattle.towards.proofs.Order.{none_given, first_given, first_snapped}
 
 -- more steps give the same first, if fewer give any
-more_steps : (ship : Ship) (p direction : Vec2) (deck S : ℕ) (c : Place) → ship.steps ≤ S → first_of (all_given ship p direction deck) ≡ At c
-    → first_of (all_given (with_steps ship S) p direction deck) ≡ At c
+more_steps : (ship : Ship) (p direction : Vec2) (deck S : ℕ) (c : Place) → ship.steps ≤ S → first_of (all_given ship p direction deck) ≡ Some c
+    → first_of (all_given (with_steps ship S) p direction deck) ≡ Some c
 unfolding all_given step_gives sample_towards
 more_steps ship p direction deck S c l e = longer (step_gives ship p direction deck) c ship.steps S 0 l e
 
@@ -40,36 +37,36 @@ module _ (file : List ℕ) (p towards : Vec2) (deck : ℕ) where
   abbrev pub given : List Place
   given = all_given (decode file) p (direction_of p towards) deck
 
-  pub closest_none : first_of given ≡ Nowhere → closest_towards file p towards deck ≡ []
+  pub closest_none : first_of given ≡ None → closest_towards file p towards deck ≡ []
   unfolding closest_towards place_towards
   closest_none e = taken_none given e
 
-  pub closest_first : (c : Place) → first_of given ≡ At c → closest_towards file p towards deck ≡ c ∷ []
+  pub closest_first : (c : Place) → first_of given ≡ Some c → closest_towards file p towards deck ≡ c ∷ []
   unfolding closest_towards place_towards
   closest_first c e = taken_first given c e
 
-  module _ (out : List ℕ) (passed : reply_check (towards_reply file p towards deck) (length out) ≡ Passed) (c : Place) (first : first_of given ≡ At c) where
+  module _ (out : List ℕ) (passed : reply_check (towards_reply file p towards deck) (length out) ≡ Ok tt) (c : Place) (first : first_of given ≡ Some c) where
     -- the entry in the output
     entry_is : take entry_size (output_to (towards_reply file p towards deck) out) ≡ place_bytes (decode file) p (direction_of p towards) c
     unfolding place_bytes entry_bytes joined bytes4
     entry_is = rw (output_passed (towards_reply file p towards deck) out passed, closest_first c first)
 
 -- ---- more steps
-module _ (file : List ℕ) (p towards : Vec2) (deck : ℕ) (out : List ℕ) (passed : reply_check (towards_reply file p towards deck) (length out) ≡ Passed)
-    (c : Place) (first : first_of (given file p towards deck) ≡ At c) (S : ℕ) (more : steps_in file ≤ S) (most : S ≤ 16) (out' : List ℕ) (room : length out ≤ length out') where
+module _ (file : List ℕ) (p towards : Vec2) (deck : ℕ) (out : List ℕ) (passed : reply_check (towards_reply file p towards deck) (length out) ≡ Ok tt)
+    (c : Place) (first : first_of (given file p towards deck) ≡ Some c) (S : ℕ) (more : steps_in file ≤ S) (most : S ≤ 16) (out' : List ℕ) (room : length out ≤ length out') where
   abbrev raised_file : List ℕ
   raised_file = with_steps_bytes file S
 
-  asked : towards_check file p towards deck ≡ Passed
+  asked : towards_check file p towards deck ≡ Ok tt
   asked = (passed_check (towards_reply file p towards deck) (length out) passed).0
 
-  file_passed : first_no file ≡ Passed
+  file_passed : first_no file ≡ Ok tt
   file_passed = (towards_yes file p towards deck asked).file_passed
 
-  raised_ship : (first_no raised_file ≡ Passed) × (decode raised_file ≡ with_steps (decode file) S)
+  raised_ship : (first_no raised_file ≡ Ok tt) × (decode raised_file ≡ with_steps (decode file) S)
   raised_ship = raised file S file_passed (omega (arith, (steps_range file file_passed).0)) most
 
-  raised_first : first_of (given raised_file p towards deck) ≡ At c
+  raised_first : first_of (given raised_file p towards deck) ≡ Some c
   raised_first = rw raised_ship.1 (more_steps (decode file) p (direction_of p towards) deck S c (omega (arith, steps_in_lem file)) first)
 
   same_long : length (towards_reply raised_file p towards deck).bytes ≡ length (towards_reply file p towards deck).bytes
@@ -79,16 +76,16 @@ module _ (file : List ℕ) (p towards : Vec2) (deck : ℕ) (out : List ℕ) (pas
       long : (f : List ℕ) → closest_towards f p towards deck ≡ c ∷ [] → length (towards_reply f p towards deck).bytes ≡ entry_size * 1
       long f e = length_places (decode f) p (direction_of p towards) (closest_towards f p towards deck) ∙ rw e
 
-  raised_passed : reply_check (towards_reply raised_file p towards deck) (length out') ≡ Passed
+  raised_passed : reply_check (towards_reply raised_file p towards deck) (length out') ≡ Ok tt
   raised_passed =
       check_passed (towards_reply raised_file p towards deck) (length out')
       (same_check file raised_file p towards deck raised_ship.0 (raised_decks file S file_passed) asked)
       (omega (arith, same_long, room, (passed_check (towards_reply file p towards deck) (length out) passed).1))
 
-  raised_answer : answer_to (towards_reply raised_file p towards deck) out' ≡ Wrote 1
+  raised_answer : answer_to (towards_reply raised_file p towards deck) out' ≡ Ok 1
   raised_answer =
       answer_passed (towards_reply raised_file p towards deck) out' raised_passed
-      ∙ ap (λ (l : List Place). Wrote (length l)) (closest_first raised_file p towards deck c raised_first)
+      ∙ ap (λ (l : List Place). Ok (length l)) (closest_first raised_file p towards deck c raised_first)
 
   raised_entry : take entry_size (output_to (towards_reply raised_file p towards deck) out') ≡ take entry_size (output_to (towards_reply file p towards deck) out)
   unfolding place_bytes sample_towards point_towards
@@ -99,7 +96,7 @@ module _ (file : List ℕ) (p towards : Vec2) (deck : ℕ) (out : List ℕ) (pas
 -- ---- the theorem
 module _ (file : List ℕ) (p towards : Vec2) (deck : ℕ) (out : List ℕ) where
   abbrev Holds : ℕ → Type 0
-  Holds n = SnapSurveyed file p towards deck (Wrote n) (output_to (towards_reply file p towards deck) out)
+  Holds n = SnapSurveyed file p towards deck (Ok n) (output_to (towards_reply file p towards deck) out)
 
   holds_none : given file p towards deck ≡ [] → Holds 0
   holds_none e = (
@@ -108,9 +105,9 @@ module _ (file : List ℕ) (p towards : Vec2) (deck : ℕ) (out : List ℕ) wher
     λ z. absurd (omega arith),
   )
 
-  holds_first : reply_check (towards_reply file p towards deck) (length out) ≡ Passed → (c : Place) (rest : List Place) → given file p towards deck ≡ c ∷ rest → Holds 1
+  holds_first : reply_check (towards_reply file p towards deck) (length out) ≡ Ok tt → (c : Place) (rest : List Place) → given file p towards deck ≡ c ∷ rest → Holds 1
   holds_first e c rest is =
-      let first : first_of (given file p towards deck) ≡ At c = rw is in
+      let first : first_of (given file p towards deck) ≡ Some c = rw is in
       let g = first_given (decode file) p (direction_of p towards) deck c rest is in
       let long = output_length (towards_reply file p towards deck) out in (
         (
@@ -128,7 +125,7 @@ module _ (file : List ℕ) (p towards : Vec2) (deck : ℕ) (out : List ℕ) wher
             (raised_answer file p towards deck out e c first S more most out' l, raised_entry file p towards deck out e c first S more most out' l),
       )
 
-  holds : reply_check (towards_reply file p towards deck) (length out) ≡ Passed → Holds (towards_reply file p towards deck).count
+  holds : reply_check (towards_reply file p towards deck) (length out) ≡ Ok tt → Holds (towards_reply file p towards deck).count
   holds e = go (given file p towards deck) refl
     where
       go : (l : List Place) → given file p towards deck ≡ l → Holds (towards_reply file p towards deck).count

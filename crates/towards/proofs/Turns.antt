@@ -15,35 +15,30 @@ use Rattle.ring.proofs.SampleBounds.{Bounding, place_along}
 use Rattle.words.specs.Bytes.{bytes4, joined, splice}
 use Rattle.words.specs.Rows.{collect}
 use Rattle.words.proofs.Writing.{length_joined}
-use Rattle.answers.specs.declared.Answer.TheVariants.{Refused, Wrote}
 use Rattle.answers.specs.Questions.{question20}
 use Rattle.answers.specs.Replies.{Replied}
 use Rattle.answers.proofs.Replying.{replied_short, replied_written, room_short, room_fits}
+use Rattle.std.specs.Prelude.{Option, Some, None, Ok, Err}
+use Rattle.answers.specs.declared.Refusal.TheVariants.{NoRoom}
 use Rattle.hits.specs.declared.Hit.{Hit}
-use Rattle.hits.specs.declared.Hit.TheVariants.{At, Missed}
+use Rattle.hits.specs.Candidates.{hit as hit_at}
 use Rattle.hits.specs.Hits.{polygon_hit}
-use Rattle.ship.specs.declared.Blocks.{Blocks}
-use Rattle.ship.specs.Layout.{blocks_at}
-use Rattle.ship.specs.Model.{Ship, deck_of}
-use Rattle.ship.specs.Decode.{deck_at, decode}
+use Rattle.ship.specs.Model.{Deck, Ship, deck_of}
+use Rattle.ship.specs.Decode.{decode}
 use Rattle.ship.specs.Packed.{packed_of}
-use Rattle.ship.specs.Questions.{DeckOfPassed}
 use Rattle.ship.proofs.Facts.{decks_few}
-use Rattle.ship.proofs.ModelFacts.{offset_within, decode_reach}
+use Rattle.ship.proofs.ModelFacts.{deck_of_within, decode_reach}
 use Rattle.search.specs.OnDeck.{next_hit}
-use Rattle.walking.proofs.ShownLaws.{deck_is}
 use Rattle.calls.specs.Closest.{entry_size, entry_bytes}
 use Rattle.towards.specs.declared.Place.{Place}
-use Rattle.towards.specs.declared.Found.{Found}
-use Rattle.towards.specs.declared.Found.TheVariants.{Nowhere, At as Found-as-At}
 use Rattle.towards.specs.Towards.{place_at, sample_towards, point_towards, passes_towards, deck_gives, place_bytes, first_of, TurnReady, PlaceReady, place_reply}
 
 -- ---- the first that passes, as a hit and as the first of all that pass
-abbrev found_on : ℕ → Hit → Found
-found_on d (At s k) = Found-as-At (place_at s d k)
-found_on d Missed = Nowhere
+abbrev found_on : ℕ → ℕ → Option Hit → Option Place
+found_on s d (Some h) = Some (place_at s d h.polygon)
+found_on s d None = None
 
-first_passing_lem : (passes : ℕ → Bool) (s d k n : ℕ) → first_of (collect passes (λ j. place_at s d j ∷ []) k n) ≡ found_on d (polygon_hit (λ i j. passes j) s k n)
+first_passing_lem : (passes : ℕ → Bool) (s d k n : ℕ) → first_of (collect passes (λ j. place_at s d j ∷ []) k n) ≡ found_on s d (polygon_hit (λ i j. passes j) s k n)
 unfolding collect polygon_hit
 first_passing_lem passes s d k zero = refl
 first_passing_lem passes s d k (suc n) = go (passes k) (first_passing_lem passes s d (k + 1) n)
@@ -51,45 +46,39 @@ first_passing_lem passes s d k (suc n) = go (passes k) (first_passing_lem passes
     later : List Place
     later = collect passes (λ j. place_at s d j ∷ []) (k + 1) n
 
-    go : (b : Bool) → first_of later ≡ found_on d (polygon_hit (λ i j. passes j) s (k + 1) n)
-        → first_of (cond b (place_at s d k ∷ later) later) ≡ found_on d (cond b (At s k) (polygon_hit (λ i j. passes j) s (k + 1) n))
+    go : (b : Bool) → first_of later ≡ found_on s d (polygon_hit (λ i j. passes j) s (k + 1) n)
+        → first_of (cond b (place_at s d k ∷ later) later) ≡ found_on s d (cond b (Some (hit_at s k)) (polygon_hit (λ i j. passes j) s (k + 1) n))
     go true e = refl
     go false e = e
 
-module _ (file : List ℕ) (p direction : Vec2) {s d : ℕ} (ready : TurnReady file s d) {b : Blocks} (is : b ≡ blocks_at file d) where
-  here : deck_of (decode file) d ≡ deck_at file b
-  here = deck_is file ready.deck is
-
-  pub turn_deck : DeckOfPassed file b
-  turn_deck = record { number = d; there = ready.deck; is = is; passed = ready.file_passed }
-
+module _ (file : List ℕ) (p direction : Vec2) (s d : ℕ) {deck : Deck} (is : deck ≡ deck_of (decode file) d) where
   -- ---- `sample_on`
-  pub sample_is : {o around q : Vec2} {reach : Float} → o ≡ (deck_at file b).offset → around ≡ sub_of p o → reach ≡ (decode file).reach
+  pub sample_is : {o around q : Vec2} {reach : Float} → o ≡ deck.offset → around ≡ sub_of p o → reach ≡ (decode file).reach
       → q ≡ along_of around direction reach s → q ≡ sample_towards (decode file) p direction s d
   unfolding sample_towards
-  sample_is eo ea er e = e ∙ rw (ea, eo, er, here)
+  sample_is eo ea er e = e ∙ rw (ea, eo, er, is)
 
   module _ {q : Vec2} (at : q ≡ sample_towards (decode file) p direction s d) where
     -- ---- `point_of`
-    pub point_is : {o point : Vec2} → o ≡ (deck_at file b).offset → point ≡ add_of q o → point ≡ point_towards (decode file) p direction s d
+    pub point_is : {o point : Vec2} → o ≡ deck.offset → point ≡ add_of q o → point ≡ point_towards (decode file) p direction s d
     unfolding point_towards
-    point_is eo e = e ∙ rw (at, eo, here)
+    point_is eo e = e ∙ rw (at, eo, is)
 
     -- ---- `deck_hit`
-    module _ {hit : Hit} (found : hit ≡ next_hit (deck_at file b) q s 0) where
-      first_is : found_on d hit ≡ first_of (deck_gives (decode file) p direction s d)
+    module _ {hit : Option Hit} (found : hit ≡ next_hit deck q s 0) where
+      first_is : found_on s d hit ≡ first_of (deck_gives (decode file) p direction s d)
       unfolding next_hit
       first_is =
           let e : length (deck_of (decode file) d).polygons - 0 ≡ length (deck_of (decode file) d).polygons = omega arith in
-          rw (found, at, ← here, e) (sym (first_passing_lem (passes_towards (decode file) p direction s d) s d 0 (length (deck_of (decode file) d).polygons)))
+          rw (found, at, is, e) (sym (first_passing_lem (passes_towards (decode file) p direction s d) s d 0 (length (deck_of (decode file) d).polygons)))
 
-      pub deck_missed : hit ≡ Missed → Nowhere ≡ first_of (deck_gives (decode file) p direction s d)
+      pub deck_missed : hit ≡ None → None ≡ first_of (deck_gives (decode file) p direction s d)
       deck_missed e = rw e at first_is
 
-      pub deck_found : {i k : ℕ} → hit ≡ At i k → Found-as-At (place_at i d k) ≡ first_of (deck_gives (decode file) p direction s d)
+      pub deck_found : {h : Hit} → hit ≡ Some h → Some (place_at s d h.polygon) ≡ first_of (deck_gives (decode file) p direction s d)
       deck_found e = rw e at first_is
 
-pub ruleset turns = (turn_deck, sample_is, point_is, deck_missed, deck_found)
+pub ruleset turns = (sample_is, point_is, deck_missed, deck_found)
 
 -- ---- entries
 length_place : (ship : Ship) (p direction : Vec2) (c : Place) → length (place_bytes ship p direction c) ≡ entry_size
@@ -115,16 +104,15 @@ module _ (file : List ℕ) (p direction : Vec2) {c : Place} (ready : PlaceReady 
   pub ready_point : {point : Vec2} → point ≡ point_towards (decode file) p direction c.step c.deck → PointWithin 3030000 point
   unfolding point_towards sample_towards
   ready_point at =
-      let o = offset_within (turn_deck file p direction ready.turn_ready refl) in
-      rw at
-      (place_along bounds_towards ready.direction_within (decode_reach file ready.turn_ready.file_passed) ready.turn_ready.step ready.point_within
-      (rw (here file p direction ready.turn_ready refl) o))
+      let turn = ready.turn_ready in
+      let within = deck_of_within file c.deck turn.file_passed turn.deck in
+      rw at (place_along bounds_towards ready.direction_within (decode_reach file turn.file_passed) turn.step ready.point_within within.offset)
 
   entry_long : length (place_reply file p direction c).bytes ≡ entry_size * 1
   entry_long = length_places (decode file) p direction (c ∷ [])
 
   module _ (out : List ℕ) {fits : Bool} (room : fits ≡ question20 (entry_size * 1) (length out)) where
-    pub place_short : not fits ≡ true → Replied (place_reply file p direction c) out out (Refused 20)
+    pub place_short : not fits ≡ true → Replied (place_reply file p direction c) out out (Err NoRoom)
     place_short no_room = replied_short refl refl (room_short (place_reply file p direction c) out entry_size 1 entry_long room no_room)
 
     module _ (has_room : not fits ≡ false) where
@@ -133,7 +121,7 @@ module _ (file : List ℕ) (p direction : Vec2) {c : Place} (ready : PlaceReady 
 
       pub place_written : {point : Vec2} {polygon : ℕ} {out' : List ℕ} → point ≡ point_towards (decode file) p direction c.step c.deck
           → polygon ≡ packed_of c.deck c.polygon → out' ≡ splice out (entry_size * 0) (entry_bytes polygon point)
-          → Replied (place_reply file p direction c) out out' (Wrote 1)
+          → Replied (place_reply file p direction c) out out' (Ok 1)
       unfolding joined place_bytes entry_bytes bytes4 splice
       place_written at packed put =
           replied_written refl refl (room_fits (place_reply file p direction c) out entry_size 1 entry_long room has_room) refl (put ∙ rw (at, packed))

@@ -1,12 +1,10 @@
 -- Document 02, point 2, of bytes: when a place is missing, where it is otherwise, and that more steps keep it. Nothing here searches: a step hits on
 -- a deck or it does not, and the call with more steps is known by its reply.
-use Rattle.std.specs.Prelude.{ℕ, ◌≤◌, ◌<◌, ◌≡◌, ◌↔◌, List, T, length, take}
+use Rattle.std.specs.Prelude.{ℕ, ◌≤◌, ◌<◌, ◌≡◌, ◌↔◌, List, T, length, take, Ok, Err}
 use Rattle.geometry.specs.declared.Vec2.{Vec2}
 use Rattle.direction.specs.Direction.{direction_of}
-use Rattle.answers.specs.declared.Answer.{Answer}
-use Rattle.answers.specs.declared.Answer.TheVariants.{Refused, Wrote}
 use Rattle.answers.specs.Questions.{looks_at}
-use Rattle.answers.specs.Replies.{answer_to, output_to}
+use Rattle.answers.specs.Replies.{answer_to, output_to, Answer}
 use Rattle.ship.specs.Layout.{steps_in}
 use Rattle.ship.specs.Model.{Ship, deck_of}
 use Rattle.ship.specs.Decode.{decode, with_steps_bytes}
@@ -46,12 +44,12 @@ module _ (ship : Ship) (p direction : Vec2) where
 
 -- What holds of a call on these bytes that answered so and left this output. A refused call says nothing of places.
 abbrev pub SnapSurveyed : List ℕ → Vec2 → Vec2 → ℕ → Answer → List ℕ → Type 0
-SnapSurveyed file p towards deck (Refused number) out = Unit {0}
-SnapSurveyed file p towards deck (Wrote n) out =
+SnapSurveyed file p towards deck (Err number) out = Unit {0}
+SnapSurveyed file p towards deck (Ok n) out =
     ((n ≡ 0) ↔ NoHit (decode file) p (direction_of p towards) deck (steps_in file))
     × ((n ≡ 0 → ⊥) → (n ≡ 1) × Snapped (decode file) p (direction_of p towards) deck (steps_in file) (take entry_size out))
     × (n ≡ 1 → (S : ℕ) → steps_in file ≤ S → S ≤ 16 → (out' : List ℕ) → length out ≤ length out'
-    → (answer_to (towards_reply (with_steps_bytes file S) p towards deck) out' ≡ Wrote 1)
+    → (answer_to (towards_reply (with_steps_bytes file S) p towards deck) out' ≡ Ok 1)
     × (take entry_size (output_to (towards_reply (with_steps_bytes file S) p towards deck) out') ≡ take entry_size out))
 
 -- the same of a call over C, whose answer is a number

@@ -1,5 +1,5 @@
 -- Document 02, point 2: `get_closest_point_towards`, its search, its questions and its entry.
-use Rattle.std.specs.Prelude.{ℕ, ◌<◌, ◌^◌, ◌≡◌, Bool, not, List, [], ◌∷◌, ℤ, length, take}
+use Rattle.std.specs.Prelude.{ℕ, ◌<◌, ◌^◌, ◌≡◌, Bool, not, List, [], ◌∷◌, ℤ, length, take, Option, Some, None, Ok}
 use Rattle.std.specs.Float.Ieee.{eq}
 use Rattle.geometry.specs.declared.Vec2.{Vec2}
 use Rattle.geometry.specs.Plane.{zero32, add_of, sub_of}
@@ -7,12 +7,10 @@ use Rattle.geometry.specs.Bounds.{PointWithin}
 use Rattle.ring.specs.Sample.{along_of}
 use Rattle.direction.specs.Direction.{squared_distance, direction_of}
 use Rattle.words.specs.Rows.{collect, collect_all}
-use Rattle.answers.specs.declared.Check.{Check}
-use Rattle.answers.specs.declared.Check.TheVariants.{Passed}
-use Rattle.answers.specs.declared.Answer.{Answer}
-use Rattle.answers.specs.Checks.{ask, after}
+use Rattle.answers.specs.Checks.{Check, ask, after}
 use Rattle.answers.specs.Questions.{question17, looks_at}
-use Rattle.answers.specs.Replies.{Reply, reply_of, Replied, RepliedCode}
+use Rattle.answers.specs.Replies.{Answer, Reply, reply_of, Replied, RepliedCode}
+use Rattle.answers.specs.declared.Refusal.TheVariants.{CallFloatOutOfRange, NoSuchDeck, NoDirection}
 use Rattle.ship.specs.Layout.{decks_in}
 use Rattle.ship.specs.Model.{Ship, deck_of}
 use Rattle.ship.specs.Decode.{decode}
@@ -21,8 +19,6 @@ use Rattle.ship.specs.Questions.{first_no}
 use Rattle.search.specs.OnDeck.{passes_at}
 use Rattle.calls.specs.Closest.{question16, entry_bytes}
 use Rattle.towards.specs.declared.Place.{Place}
-use Rattle.towards.specs.declared.Found.{Found}
-use Rattle.towards.specs.declared.Found.TheVariants.{Nowhere, At}
 
 -- ---- the search: step by step from p along a direction, on each deck in the deck's own coordinates
 abbrev pub place_at : ℕ → ℕ → ℕ → Place
@@ -60,9 +56,9 @@ module _ (ship : Ship) (p direction : Vec2) where
   place_bytes c = entry_bytes (packed_of c.deck c.polygon) (point_towards c.step c.deck)
 
 -- the first of a list, as the functions of the search return it
-abbrev pub first_of : List Place → Found
-first_of [] = Nowhere
-first_of (c ∷ rest) = At c
+abbrev pub first_of : List Place → Option Place
+first_of [] = None
+first_of (c ∷ rest) = Some c
 
 -- ---- the call
 -- 22 the squared distance not 0, as computed?
@@ -73,7 +69,7 @@ question22 p towards = not (eq (squared_distance p towards) zero32)
 unfoldable pub towards_check : List ℕ → Vec2 → Vec2 → ℕ → Check
 towards_check file p towards deck =
     after (first_no file)
-    (ask (question16 p) 16 (ask (question16 towards) 16 (ask (question17 (decks_in file) deck) 17 (ask (question22 p towards) 22 Passed))))
+    (ask (question16 p) CallFloatOutOfRange (ask (question16 towards) CallFloatOutOfRange (ask (question17 (decks_in file) deck) NoSuchDeck (ask (question22 p towards) NoDirection (Ok tt)))))
 
 unfoldable pub closest_towards : List ℕ → Vec2 → Vec2 → ℕ → List Place
 closest_towards file p towards deck = place_towards (decode file) p (direction_of p towards) deck
@@ -92,7 +88,7 @@ TowardsCode file p towards deck out out' r = RepliedCode (towards_reply file p t
 -- ---- what the functions of the search need
 -- a passed file, and deck d's turn in step s
 pub record TurnReady (file : List ℕ) (s d : ℕ) : Type 0 where
-  pub file_passed : first_no file ≡ Passed
+  pub file_passed : first_no file ≡ Ok tt
   pub deck : d < decks_in file
   pub step : s < 16
 
@@ -105,4 +101,4 @@ pub record PlaceReady (file : List ℕ) (p direction : Vec2) (c : Place) : Type 
 
 -- the reply with this place alone
 abbrev pub place_reply : List ℕ → Vec2 → Vec2 → Place → Reply
-place_reply file p direction c = reply_of Passed (place_bytes (decode file) p direction) (c ∷ [])
+place_reply file p direction c = reply_of (Ok tt) (place_bytes (decode file) p direction) (c ∷ [])

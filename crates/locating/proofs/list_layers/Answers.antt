@@ -11,14 +11,14 @@ packed-requires c = search (listing, rules)
 pub put_u32-requires : goal.put_u32-requires
 put_u32-requires c = search (listing, rules)
 
-pub decks-preserved-in-At : goal.decks-preserved-in-At
-decks-preserved-in-At c = search (listing, rules)
-
-pub decks-preserved-in_default : goal.decks-preserved-in_default
-decks-preserved-in_default c = search (listing, rules)
-
 pub decks-preserved : goal.decks-preserved
 decks-preserved c = search (listing, rules)
 
 pub returns : goal.returns
 returns c = search (listing, rules)
+
+pub decks-preserved-then-not-looks_at : goal.decks-preserved-then-not-looks_at
+decks-preserved-then-not-looks_at c = search (listing, rules)
+
+pub decks-preserved-in_default : goal.decks-preserved-in_default
+decks-preserved-in_default c = search (listing, rules)

@@ -1,10 +1,6 @@
 -- `list_layers` meets its contract. The loop's invariant: the polygons of the decks before e stand in the list.
-use Prim.Native.Nat.{◌-◌}
 use Rattle.locating.proofs.DeckLoop.{Listing}
 use Rattle.locating.proofs.list_layers.Given as goal
 
 abbrev pub invariant-decks : goal.invariant-decks
-invariant-decks l = Listing l.file l.p l.deck l.initial.list l.list l.n l.e
-
-abbrev pub decreases-decks : goal.decreases-decks
-decreases-decks l = l.count - l.e
+invariant-decks l = Listing l.file l.p l.deck l.initial.list l.list l.n l.d

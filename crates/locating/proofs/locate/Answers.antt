@@ -8,11 +8,8 @@ decks-init c = search (seeking, rules)
 pub packed-requires : goal.packed-requires
 packed-requires c = search (seeking, rules)
 
-pub returns-in-At : goal.returns-in-At
-returns-in-At c = search (seeking, rules)
-
-pub decks-preserved-in_default : goal.decks-preserved-in_default
-decks-preserved-in_default c = search (seeking, rules)
+pub returns-in-Some : goal.returns-in-Some
+returns-in-Some c = search (seeking, rules)
 
 pub decks-preserved : goal.decks-preserved
 decks-preserved c = search (seeking, rules)

@@ -1,10 +1,11 @@
 -- `point_check` meets its contract.
 use borrow.Author.Rules.{rules}
 use Rattle.locating.proofs.Probing.{points}
+use Rattle.answers.proofs.Asking.{handed_on}
 use Rattle.locating.proofs.point_check.Goals as goal
 
-pub returns-in-No : goal.returns-in-No
-returns-in-No c = search (points, rules)
+pub returns-in_err-first_no : goal.returns-in_err-first_no
+returns-in_err-first_no c = search (handed_on c.from_residual.ensures.1, points, rules)
 
 pub returns-then-not-place_in_size : goal.returns-then-not-place_in_size
 returns-then-not-place_in_size c = search (points, rules)

@@ -14,17 +14,17 @@ returns-then-k-eq0 t c = search (halves, rules)
 pub reach_within-requires : goal.reach_within-requires
 reach_within-requires t c = search (halves, rules)
 
-pub reach_within-requires-then-reach_within : goal.reach_within-requires-then-reach_within
-reach_within-requires-then-reach_within t c = search (halves, rules)
+pub returns : goal.returns
+returns t c = search (halves, rules)
 
-pub returns-then-reach_within-2 : goal.returns-then-reach_within-2
-returns-then-reach_within-2 t c = search (halves, rules)
+pub midpoints-preserved-then-not-reach_within : goal.midpoints-preserved-then-not-reach_within
+midpoints-preserved-then-not-reach_within t c = search (halves, rules)
 
-pub midpoints-preserved-else-reach_within-2 : goal.midpoints-preserved-else-reach_within-2
-midpoints-preserved-else-reach_within-2 t c = search (halves, rules)
+pub reach_within-requires-in-midpoints : goal.reach_within-requires-in-midpoints
+reach_within-requires-in-midpoints t c = search (halves, rules)
+
+pub returns-then-reach_within : goal.returns-then-reach_within
+returns-then-reach_within t c = search (halves, rules)
 
 pub midpoints-preserved : goal.midpoints-preserved
 midpoints-preserved t c = search (halves, rules)
-
-pub returns : goal.returns
-returns t c = search (halves, rules)

@@ -1,5 +1,4 @@
 -- `reach_within` meets its contract. The measure is k. The loop's invariant: none of the numbers passed is a midpoint.
-use Rattle.std.proofs.Common.{◌-◌}
 use Rattle.numbering.proofs.Midpoints.{Tried}
 use Rattle.numbering.proofs.+reach_within.Given as goal
 
@@ -8,6 +7,3 @@ decreases-reach_within l = l.k
 
 abbrev pub invariant-midpoints : goal.invariant-midpoints
 invariant-midpoints l = Tried l.file l.blocked l.seat l.s l.k l.a l.b l.m
-
-abbrev pub decreases-midpoints : goal.decreases-midpoints
-decreases-midpoints l = l.count - l.m

@@ -1,6 +1,7 @@
+-- `doublings` meets its contract.
 use borrow.Author.Rules.{rules}
-use Rattle.numbering.proofs.Midpoints.{halving}
+use Rattle.numbering.proofs.Midpoints.{doubled}
 use Rattle.numbering.proofs.doublings.Goals as goal
 
-pub halves-preserved : goal.halves-preserved
-halves-preserved c = search (halving, rules)
+pub returns : goal.returns
+returns c = search (doubled, rules)

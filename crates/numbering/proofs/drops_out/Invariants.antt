@@ -1,10 +1,6 @@
 -- `drops_out` meets its contract. The loop's invariant: none of the numbers passed reaches number j.
-use Prim.Native.Nat.{◌-◌}
 use Rattle.numbering.proofs.Midpoints.{Unreached}
 use Rattle.numbering.proofs.drops_out.Given as goal
 
 abbrev pub invariant-earlier : goal.invariant-earlier
 invariant-earlier l = Unreached l.file l.blocked l.seat l.s l.j l.i
-
-abbrev pub decreases-earlier : goal.decreases-earlier
-decreases-earlier l = l.j - l.i

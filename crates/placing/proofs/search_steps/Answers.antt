@@ -8,13 +8,13 @@ steps-init c = search (searching, rules)
 pub take_step-tally-requires : goal.take_step-tally-requires
 take_step-tally-requires c = search (searching, rules)
 
-pub returns-in-Chosen : goal.returns-in-Chosen
-returns-in-Chosen c =
-    searching_found c.steps.invariant.1.1.1 c.steps-steps.ensures.0 c.steps-test.true c.take_step-tally.ensures.0
-    c.in-Chosen.is c.placed_record.ensures
+pub returns-in-Some : goal.returns-in-Some
+returns-in-Some c =
+    searching_found c.steps.invariant.1.1 c.steps-steps.ensures.0 c.steps-test.true c.take_step-tally.ensures.0
+    c.in-Some.is c.placed_record.ensures
 
 pub steps-preserved : goal.steps-preserved
-steps-preserved c = (search rules, (search rules, (search rules, search (searching, rules))))
+steps-preserved c = (search rules, (search rules, search (searching, rules)))
 
 pub returns : goal.returns
 returns c = search (searching, rules)

@@ -1,5 +1,4 @@
 -- `search_steps` meets its contract. The loop's invariant: the first step with a candidate is the first from s on.
-use Prim.Native.Nat.{◌-◌, ◌≤◌}
 use mathlib.Core.Path.{◌≡◌}
 use lib.ListN.{length}
 use Rattle.walking.specs.Lists.{WalkReady}
@@ -8,7 +7,4 @@ use Rattle.placing.proofs.search_steps.Given as goal
 
 abbrev pub invariant-steps : goal.invariant-steps
 invariant-steps l =
-    (l.s ≤ l.steps) × ((length l.near ≡ length l.initial.near) × (WalkReady l.file l.blocked l.table l.seat l.kept × Searching l.file l.blocked l.seat l.tried l.s))
-
-abbrev pub decreases-steps : goal.decreases-steps
-decreases-steps l = l.steps - l.s
+    (length l.near ≡ length l.initial.near) × (WalkReady l.file l.blocked l.table l.seat l.kept × Searching l.file l.blocked l.seat l.tried l.s)

@@ -5,8 +5,8 @@ use Rattle.towards.proofs.first_hit.Goals as goal
 pub steps-init : goal.steps-init
 steps-init c = search (seeking_steps, rules)
 
-pub returns-in-At : goal.returns-in-At
-returns-in-At c = search (seeking_steps, rules)
+pub returns-in-Some : goal.returns-in-Some
+returns-in-Some c = search (seeking_steps, rules)
 
 pub steps-preserved : goal.steps-preserved
 steps-preserved c = search (seeking_steps, rules)

@@ -1,10 +1,6 @@
 -- `first_hit` meets its contract. The loop's invariant: the steps before t gave nothing.
-use Prim.Native.Nat.{◌-◌}
 use Rattle.towards.proofs.Seeks.{StepSeeking}
 use Rattle.towards.proofs.first_hit.Given as goal
 
 abbrev pub invariant-steps : goal.invariant-steps
-invariant-steps l = StepSeeking l.file l.p l.direction l.deck l.t
-
-abbrev pub decreases-steps : goal.decreases-steps
-decreases-steps l = l.steps - l.t
+invariant-steps l = StepSeeking l.file l.p l.direction l.deck l.s

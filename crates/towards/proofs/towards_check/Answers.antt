@@ -1,10 +1,11 @@
 -- `towards_check` meets its contract.
 use borrow.Author.Rules.{rules}
 use Rattle.towards.proofs.Asks.{asks}
+use Rattle.answers.proofs.Asking.{handed_on}
 use Rattle.towards.proofs.towards_check.Goals as goal
 
-pub returns-in-No : goal.returns-in-No
-returns-in-No c = search (asks, rules)
+pub returns-in_err-first_no : goal.returns-in_err-first_no
+returns-in_err-first_no c = search (handed_on c.from_residual.ensures.1, asks, rules)
 
 pub returns-then-not-place_in_size : goal.returns-then-not-place_in_size
 returns-then-not-place_in_size c = search (asks, rules)
