@@ -11,7 +11,7 @@ use Rattle.ring.specs.Table.{directions}
 use Rattle.words.specs.Bytes.{u32_at}
 use Rattle.words.specs.Rows.{rows, every, collect, sum_of}
 use Rattle.answers.specs.Checks.{check_each}
-use Rattle.answers.specs.Questions.{question14, question17}
+use Rattle.answers.specs.Questions.{number_of, question14, question17}
 use Rattle.ship.specs.Layout.{blocks_at}
 use Rattle.ship.specs.Decode.{deck_at, decode}
 use Rattle.ship.specs.Floats.{size_at_most, reach_allowed}
@@ -66,15 +66,15 @@ text =
     ∷ []
 
 worked_example : seatlist_text input ≡ text
-unfolding file seats input text seatlist_text list_text question21 refused_line seat_lines placed_in unplaced_in seat_line none_fields placed_fields end_line decimal decimal_from hex hex_from height_along sum_from height_from mean_height height_in side_of in_range in_bounding_box on_segment edge_test_of edges_from point_in_polygon directions u32_at rows every collect sum_of check_each question14 question17 blocks_at deck_at decode size_at_most reach_allowed point_of corners_of height_of polygon_points polygon_corners end_to_end question1 question2 question3 question4 question5 question6 question7 question8 question9 question10 question11 question12 question13 header_check blocks_check deck_check first_no polygon_hit sample_hit turn tried_before best_of first_step seat_record choice_of is_blocked is_open nearer passes_at height_on sample_on place_of shown_from run_check seat_run seat_at question14_seats kind_allowed question16_seat seat_check of_int of_bits div add sub mul lt le eq round sum neg units odd size climb span of_fields to_bits
+unfolding file seats input text seatlist_text list_text question21 refused_line number_of seat_lines placed_in unplaced_in seat_line none_fields placed_fields end_line decimal decimal_from hex hex_from height_along sum_from height_from mean_height height_in side_of in_range in_bounding_box on_segment edge_test_of edges_from point_in_polygon directions u32_at rows every collect sum_of check_each question14 question17 blocks_at deck_at decode size_at_most reach_allowed point_of corners_of height_of polygon_points polygon_corners end_to_end question1 question2 question3 question4 question5 question6 question7 question8 question9 question10 question11 question12 question13 header_check blocks_check deck_check first_no polygon_hit sample_hit turn tried_before best_of first_step seat_record choice_of is_blocked is_open nearer passes_at height_on sample_on place_of shown_from run_check seat_run seat_at question14_seats kind_allowed question16_seat seat_check of_int of_bits div add sub mul lt le eq round sum neg units odd size climb span of_fields to_bits
 worked_example = refl
 
 -- no bytes: `refused 21`
 no_input : seatlist_text [] ≡ 114 ∷ 101 ∷ 102 ∷ 117 ∷ 115 ∷ 101 ∷ 100 ∷ 32 ∷ 50 ∷ 49 ∷ 10 ∷ []
-unfolding seatlist_text question21 u32_at refused_line decimal decimal_from
+unfolding seatlist_text question21 u32_at refused_line number_of decimal decimal_from
 no_input = refl
 
 -- a file of no bytes: `refused 1`
 no_file : seatlist_text (replicate 36 0) ≡ 114 ∷ 101 ∷ 102 ∷ 117 ∷ 115 ∷ 101 ∷ 100 ∷ 32 ∷ 49 ∷ 10 ∷ []
-unfolding seatlist_text list_text question21 u32_at run_check first_no header_check question1 refused_line decimal decimal_from
+unfolding seatlist_text list_text question21 u32_at run_check first_no header_check question1 refused_line number_of decimal decimal_from
 no_file = refl

@@ -6,10 +6,11 @@ use mathlib.Core.Path.{◌≡◌, refl, sym, ap, ◌∙◌}
 use mathlib.Core.Bool.{Bool, true, false, not, cond}
 use mathlib.Core.List.{List, [], ◌∷◌, ◌++◌, append_assoc, append-nil}
 use lib.ListN.{length}
-use borrow.Author.Tests.{not-true, not-false}
+use Rattle.std.specs.List.{filter, range_with_len}
 use Rattle.words.specs.Bytes.{Put}
 use Rattle.words.specs.Rows.{rows}
 use Rattle.words.proofs.Splice.{length_splice, splice_nil}
+use Rattle.words.proofs.TableRows.{length_rows}
 use Rattle.records.specs.declared.SeatRecord.{SeatRecord}
 use Rattle.records.specs.Record.{record_at, records_in, is_unplaced}
 use Rattle.lines.specs.Lines.{seat_line}
@@ -25,17 +26,6 @@ module _ (f : ℕ → SeatRecord) where
   lines_last (suc n) i =
       let e : i + suc n ≡ i + 1 + n = omega arith in
       rw (e, append_assoc) (ap (λ (l : List ℕ). seat_line i (f i) ++ l) (lines_last n (i + 1)))
-
-  placed_last : (n i : ℕ) → placed_in (rows f i (suc n)) ≡ placed_in (rows f i n) + cond (is_unplaced (f (i + n))) 0 1
-  unfolding placed_in rows
-  placed_last zero i = let e : i + 0 ≡ i = omega arith in rw e (omega arith)
-  placed_last (suc n) i =
-      let e : i + suc n ≡ i + 1 + n = omega arith in
-      rw (e, placed_last n (i + 1)) (go (is_unplaced (f i)) (placed_in (rows f (i + 1) n)) (cond (is_unplaced (f (i + 1 + n))) 0 1))
-    where
-      go : (unplaced : Bool) (a b : ℕ) → cond unplaced (a + b) (suc (a + b)) ≡ cond unplaced a (suc a) + b
-      go true a b = refl
-      go false a b = omega arith
 
 -- ---- put_seats
 -- the lines of the first i records are put
@@ -63,39 +53,7 @@ module _ {records text₀ : List ℕ} where
           put = rw (add-one, lines_last (record_at records) i 0, z, ← e) q;
         }
 
-    pub listed_all : {count : ℕ} → i ≤ count → count ≤ i → Put text₀ 0 (seat_lines 0 (records_in records count)) text at
-    listed_all {count} a b = let e : count ≡ i = omega arith in rw e l.put
-
-pub ruleset listing = (listed_none, listed_more, listed_all)
-
--- ---- count_placed
--- so many of the first i records are placed
-pub record Counted (records : List ℕ) (placed i : ℕ) : Type 0 where
-  pub few : placed ≤ i
-  pub same : placed ≡ placed_in (records_in records i)
-
-module _ {records : List ℕ} where
-  pub counted_none : Counted records 0 0
-  unfolding placed_in rows
-  counted_none = record { few = omega arith; same = refl }
-
-  module _ {placed i : ℕ} (c : Counted records placed i) where
-    module _ {r : SeatRecord} {b : Bool} (read : r ≡ record_at records i) (tested : b ≡ is_unplaced r) where
-      one_more : {n : ℕ} → n ≡ placed + cond b 0 1 → n ≡ placed_in (records_in records (i + 1))
-      one_more e =
-          let z : 0 + i ≡ i = omega arith in
-          e ∙ rw (add-one, placed_last (record_at records) i 0, z, ← read, ← tested, c.same)
-
-      pub counted_placed : not b ≡ true → Counted records (placed + 1) (i + 1)
-      counted_placed e = record { few = omega (arith, c.few); same = one_more (rw (not-true b e)) }
-
-      pub counted_unplaced : not b ≡ false → Counted records placed (i + 1)
-      counted_unplaced e = record { few = omega (arith, c.few); same = one_more (rw (not-false b e) (omega arith)) }
-
-    pub counted_all : {count : ℕ} → i ≤ count → count ≤ i → placed ≡ placed_in (records_in records count)
-    counted_all {count} a b = let e : count ≡ i = omega arith in rw e c.same
-
-pub ruleset counting = (counted_none, counted_placed, counted_unplaced, counted_all)
+pub ruleset listing = (listed_none, listed_more)
 
 -- ---- those that are not placed are the others
 pub all_counted : (rs : List SeatRecord) → placed_in rs + unplaced_in rs ≡ length rs
@@ -106,3 +64,20 @@ all_counted (r ∷ rs) = go (is_unplaced r) (placed_in rs) (unplaced_in rs) ∙ 
     go : (unplaced : Bool) (a b : ℕ) → cond unplaced a (suc a) + cond unplaced (suc b) b ≡ suc (a + b)
     go true a b = omega arith
     go false a b = omega arith
+
+-- ---- count_placed
+module _ (records : List ℕ) where
+  abbrev pub placed_at : ℕ → Bool
+  placed_at i = not (is_unplaced (record_at records i))
+
+  placed_from : (n i : ℕ) → length (filter placed_at (range_with_len i n)) ≡ placed_in (rows (record_at records) i n)
+  unfolding placed_in rows
+  placed_from zero i = refl
+  placed_from (suc n) i = go (is_unplaced (record_at records i)) _ (placed_from n (i + 1))
+    where
+      go : (unplaced : Bool) (l : List ℕ) {b : ℕ} → length l ≡ b → length (cond (not unplaced) (i ∷ l) l) ≡ cond unplaced b (suc b)
+      go true l e = e
+      go false l e = ap suc e
+
+  pub placed_counted : (n : ℕ) {count : ℕ} → count ≡ length (filter placed_at (range_with_len 0 n)) → (count ≡ placed_in (records_in records n)) × (count ≤ n)
+  placed_counted n e = (e ∙ placed_from n 0, omega (arith, e, placed_from n 0, all_counted (records_in records n), length_rows (record_at records) n 0))

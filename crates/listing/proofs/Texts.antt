@@ -9,12 +9,13 @@ use lib.Seq.{length-take-le, take_at, take_all}
 use Rattle.words.specs.Bytes.{u32_at, splice, Put}
 use Rattle.words.proofs.Splice.{length_splice}
 use Rattle.words.proofs.TableRows.{length_rows}
-use Rattle.answers.specs.declared.Check.TheVariants.{Passed}
-use Rattle.answers.specs.declared.Answer.{Answer}
-use Rattle.answers.specs.declared.Answer.TheVariants.{Refused, Wrote}
-use Rattle.answers.specs.Replies.{Replied}
+use Rattle.answers.specs.Replies.{Replied, Answer}
 use Rattle.answers.proofs.Asking.{said_no, said_yes}
 use Rattle.answers.proofs.Replying.{wrote_check, wrote_count, wrote_bytes, refused_check, replied_length, replied_short, replied_written}
+use Rattle.answers.specs.declared.Refusal.{Refusal}
+use Rattle.answers.specs.declared.Refusal.TheVariants.{NoRoom, WrongInput}
+use Rattle.answers.specs.Questions.{number_of}
+use Rattle.std.specs.Prelude.{Ok, Err}
 use Rattle.records.specs.Record.{record_size, record_at, records_in, records_bytes}
 use Rattle.records.proofs.ReadBack.{records_length, records_written}
 use Rattle.lines.specs.Lines.{end_line, refused_line}
@@ -51,7 +52,7 @@ pub records_put : (records : List ℕ) {s t u : List ℕ} {count n m placed : �
     → Put s 0 (seat_lines 0 (records_in records count)) t n → n ≤ 128 * count
     → placed ≡ placed_in (records_in records count)
     → Put t n (end_line placed (count - placed)) u m → m ≤ n + 128
-    → Written s (run_text Passed (records_in records count)) u m
+    → Written s (run_text (Ok tt) (records_in records count)) u m
 records_put records {s} {t} {u} {count} {n} {m} {placed} few room p h e q l =
     let rs = records_in records count in
     let left : unplaced_in rs ≡ count - placed = omega (arith, all_counted rs, length_rows (record_at records) count 0, e) in
@@ -62,13 +63,13 @@ records_put records {s} {t} {u} {count} {n} {m} {placed} few room p h e q l =
 -- ---- put_run
 module _ (file blocked seats : List ℕ) where
   module _ {out out' : List ℕ} {r : Answer} (replied : Replied (run_reply file blocked seats) out out' r) (few : length seats ≤ seats_size) where
-    pub ran_few : {count : ℕ} → r ≡ Wrote count → count ≤ most_seats
+    pub ran_few : {count : ℕ} → r ≡ Ok count → count ≤ most_seats
     ran_few w = omega (arith, wrote_count replied w, run_length (decode file) blocked seats)
 
-    pub ran_room : {count : ℕ} → r ≡ Wrote count → record_size * count ≤ length out'
+    pub ran_room : {count : ℕ} → r ≡ Ok count → record_size * count ≤ length out'
     ran_room w = omega (arith, wrote_count replied w, (wrote_check replied w).1, records_length (run_records file blocked seats), replied_length replied)
 
-    pub ran_wrote : {count n : ℕ} {s t : List ℕ} → r ≡ Wrote count → Written s (run_text Passed (records_in out' count)) t n → Written s (list_text file blocked seats) t n
+    pub ran_wrote : {count n : ℕ} {s t : List ℕ} → r ≡ Ok count → Written s (run_text (Ok tt) (records_in out' count)) t n → Written s (list_text file blocked seats) t n
     unfolding list_text
     ran_wrote {count} {n} {s} {t} w p =
         let rs = run_records file blocked seats in
@@ -76,16 +77,18 @@ module _ (file blocked seats : List ℕ) where
         let e : records_in out' count ≡ rs = rw (wrote_bytes replied w, wrote_count replied w) (records_written rs rest) in
         rw (wrote_check replied w).0 (rw e at p)
 
-    pub ran_refused : {number n : ℕ} {s t : List ℕ} → r ≡ Refused number → records_size ≤ length out → Put s 0 (refused_line number) t n → Put s 0 (list_text file blocked seats) t n
+    pub ran_refused : {refusal : Refusal} {number n : ℕ} {s t : List ℕ} → r ≡ Err refusal → number ≡ number_of refusal → records_size ≤ length out → Put s 0 (refused_line number) t n
+        → Put s 0 (list_text file blocked seats) t n
     unfolding list_text
-    ran_refused e room p =
-        rw (refused_check replied e (omega (arith, reply_long file blocked seats))) p
+    ran_refused e numbered room p =
+        rw (refused_check replied e (omega (arith, reply_long file blocked seats))) (rw numbered at p)
 
 -- ---- put_text
 module _ (input : List ℕ) where
-  pub input_refused : {b : Bool} {s t : List ℕ} {n : ℕ} → b ≡ question21 input → not b ≡ true → Put s 0 (refused_line 21) t n → Put s 0 (seatlist_text input) t n
+  pub input_refused : {b : Bool} {number n : ℕ} {s t : List ℕ} → b ≡ question21 input → not b ≡ true → number ≡ number_of WrongInput → Put s 0 (refused_line number) t n
+      → Put s 0 (seatlist_text input) t n
   unfolding seatlist_text
-  input_refused e h p = rw (said_no e h) p
+  input_refused e h numbered p = rw (said_no e h) (rw numbered at p)
 
   module _ {end : ℕ} (yes : question21 input ≡ true) (e : end ≡ 4 + u32_at input 0) where
     seats_are : take (length input - (end + 32)) (drop (end + 32) input) ≡ seats_in input
@@ -105,13 +108,13 @@ module _ (input : List ℕ) where
 
 -- ---- seatlist_text
 module _ (input : List ℕ) {s t : List ℕ} {n : ℕ} (p : Written s (seatlist_text input) t n) where
-  pub text_short : {out : List ℕ} → length out < n → Replied (text_reply input) out out (Refused 20)
+  pub text_short : {out : List ℕ} → length out < n → Replied (text_reply input) out out (Err NoRoom)
   text_short h = replied_short refl refl (omega (arith, p.0.next_is))
 
   pub text_room : {room : ℕ} → n ≤ room → 0 + length (take n t) ≤ room
   text_room h = omega (arith, prefix_long n t p.1)
 
-  pub text_copied : {out out' : List ℕ} {m : ℕ} → n ≤ length out → Put out 0 (take n t) out' m → Replied (text_reply input) out out' (Wrote n)
+  pub text_copied : {out out' : List ℕ} {m : ℕ} → n ≤ length out → Put out 0 (take n t) out' m → Replied (text_reply input) out out' (Ok n)
   unfolding splice
   text_copied {out} h q =
       let w = rw (front p.0) at q in

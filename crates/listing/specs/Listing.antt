@@ -1,8 +1,9 @@
 -- Document 01, section 7: the text of `seatlist`, from the bytes that it reads.
-use Rattle.std.specs.Prelude.{ℕ, suc, ◌+◌, cond, List, [], ◌∷◌, ◌++◌, length, take, drop}
+use Rattle.std.specs.Prelude.{ℕ, suc, ◌+◌, cond, List, [], ◌∷◌, ◌++◌, length, take, drop, Ok, Err}
 use Rattle.words.specs.Bytes.{u32_at}
-use Rattle.answers.specs.declared.Check.{Check}
-use Rattle.answers.specs.declared.Check.TheVariants.{Passed, No}
+use Rattle.answers.specs.declared.Refusal.TheVariants.{WrongInput}
+use Rattle.answers.specs.Questions.{number_of}
+use Rattle.answers.specs.Checks.{Check}
 use Rattle.answers.specs.Replies.{Reply}
 use Rattle.records.specs.declared.SeatRecord.{SeatRecord}
 use Rattle.records.specs.Record.{is_unplaced}
@@ -38,16 +39,16 @@ unplaced_in (r ∷ rest) = cond (is_unplaced r) (suc (unplaced_in rest)) (unplac
 
 -- the lines of a run, or the one line of its refusal
 abbrev pub run_text : Check → List SeatRecord → List ℕ
-run_text (No number) records = refused_line number
-run_text Passed records = seat_lines 0 records ++ end_line (placed_in records) (unplaced_in records)
+run_text (Err refusal) records = refused_line (number_of refusal)
+run_text (Ok tt) records = seat_lines 0 records ++ end_line (placed_in records) (unplaced_in records)
 
 -- of an input that passed 21
 unfoldable pub list_text : List ℕ → List ℕ → List ℕ → List ℕ
 list_text file blocked seats = run_text (run_check file blocked seats) (seat_run (decode file) blocked (seats_of seats))
 
 unfoldable pub seatlist_text : List ℕ → List ℕ
-seatlist_text input = cond (question21 input) (list_text (file_in input) (blocked_in input) (seats_in input)) (refused_line 21)
+seatlist_text input = cond (question21 input) (list_text (file_in input) (blocked_in input) (seats_in input)) (refused_line (number_of WrongInput))
 
 -- an entry is a byte; there is nothing to ask of an input, but that its text fits the output
 abbrev pub text_reply : List ℕ → Reply
-text_reply input = record { check = Passed; count = length (seatlist_text input); bytes = seatlist_text input }
+text_reply input = record { check = Ok tt; count = length (seatlist_text input); bytes = seatlist_text input }

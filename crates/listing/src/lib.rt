@@ -1,15 +1,14 @@
 // The text of `seatlist` from the bytes that it reads (document 01, section 7).
 #![tactic(auto)]
 
-ghost use Rattle.std.specs.Prelude.{◌≡◌, ◌*◌, ◌≤◌, length};
+ghost use Rattle.std.specs.Prelude.{◌≡◌, ◌*◌, ◌≤◌, length, Ok};
 ghost use Rattle.words.specs.Bytes.{Put};
-ghost use Rattle.answers.specs.declared.Check.TheVariants.{Passed};
 ghost use Rattle.answers.specs.Replies.{Replied};
 ghost use Rattle.records.specs.Record.{record_size, records_in};
 ghost use Rattle.listing.specs.Listing.{seat_lines, placed_in, run_text, list_text, seatlist_text, text_reply};
 ghost use Rattle.listing.specs.Sizes.{seats_size, records_size, text_size, most_seats, Room, Written};
 
-use answers::Answer;
+use answers::{Answer, Refusal};
 
 // A line a seat, in list order.
 fn put_seats(text: &mut [u8], records: &[u8], count: usize) -> usize
@@ -18,10 +17,8 @@ fn put_seats(text: &mut [u8], records: &[u8], count: usize) -> usize
     ensures upper_bound { result ≤ 128 * count }
 {
     let mut at: usize = 0;
-    let mut i: usize = 0;
-    'seats: while i < count {
+    'seats: for i in 0..count {
         at = lines::put_seat(text, at, i as u32, records::record_at(records, i));
-        i += 1;
     }
     at
 }
@@ -30,22 +27,15 @@ fn count_placed(records: &[u8], count: usize) -> u32
     requires { (count ≤ most_seats) × (record_size * count ≤ length records.now) }
     ensures { (result ≡ placed_in (records_in records.now count)) × (result ≤ count) }
 {
-    let mut placed: u32 = 0;
-    let mut next: usize = 0;
-    'seats: while next < count {
-        let r = records::record_at(records, next);
-        next += 1;
-        if !records::unplaced(r) {
-            placed += 1;
-        }
-    }
-    placed
+    (0..count)
+        .filter(|&i| !records::unplaced(records::record_at(records, i)))
+        .count() as u32
 }
 
 // The lines of a run that was not refused.
 fn put_records(text: &mut [u8], records: &[u8], count: usize) -> usize
     requires { Room text.old records.now count }
-    ensures { Written text.old (run_text Passed (records_in records.now count)) text.new result }
+    ensures { Written text.old (run_text (Ok tt) (records_in records.now count)) text.new result }
 {
     let end = put_seats(text, records, count);
     let placed = count_placed(records, count);
@@ -59,8 +49,8 @@ fn put_run(text: &mut [u8], records: &mut [u8], file: &[u8], blocked: &[u8], sea
         text.new result }
 {
     match seat_run::run(file, blocked, seats, records) {
-        Answer::Refused(number) => lines::put_refused(text, 0, number),
-        Answer::Wrote(count) => put_records(text, records, count),
+        Err(refusal) => lines::put_refused(text, 0, refusal.number()),
+        Ok(count) => put_records(text, records, count),
     }
 }
 
@@ -70,7 +60,7 @@ fn put_text(text: &mut [u8], records: &mut [u8], input: &[u8]) -> usize
     ensures { Written text.old (seatlist_text input.now) text.new result }
 {
     if !lines::input_allowed(input) {
-        return lines::put_refused(text, 0, 21);
+        return lines::put_refused(text, 0, Refusal::WrongInput.number());
     }
     let file_end = lines::file_end(input);
     let blocked_end = file_end + 32;
@@ -92,8 +82,8 @@ pub fn seatlist_text(input: &[u8], out: &mut [u8]) -> Answer
     let mut records = [0u8; 117900];
     let n = put_text(&mut text, &mut records, input);
     if out.len() < n {
-        return Answer::Refused(20);
+        return Err(Refusal::NoRoom);
     }
     lines::put_bytes(out, 0, &text[..n]);
-    Answer::Wrote(n)
+    Ok(n)
 }

@@ -10,7 +10,6 @@ use lib.Seq.{take-suc, take_all, length-take-le}
 use Rattle.words.specs.Bytes.{splice, counts_of}
 use Rattle.words.specs.Rows.{rows, collect, collect_all}
 use Rattle.words.proofs.Counts.{length_counts}
-use Rattle.answers.specs.declared.Check.TheVariants.{Passed}
 use Rattle.records.specs.declared.SeatRecord.{SeatRecord}
 use Rattle.records.specs.Record.{record_size, record_bytes, is_unplaced}
 use Rattle.records.proofs.ReadBack.{no_record}
@@ -27,6 +26,7 @@ use Rattle.loads.specs.Counting.{Aboard, seat_counted, LabelsIn, CountReady, Cou
 use Rattle.loads.proofs.SheetLaws.{count_few, sheet_length_lem}
 use Rattle.loads.proofs.Adding.{seat_sheet}
 use Rattle.loads.proofs.TotalsTheorem.{record_aboard}
+use Rattle.std.specs.Prelude.{Ok}
 
 -- ---- no count is greater than the list is long
 module _ (most : ℕ) where
@@ -76,7 +76,7 @@ pub record Counting (file blocked : List ℕ) (directions : List ℤ) (seats out
   pub table_is : table ≡ counts_of (sheet_of (ship_labels (decode file)) (take i (run_records file blocked seats)))
 
 module _ {file blocked : List ℕ} {directions : List ℤ} {seats out table work : List ℕ} (ready : CountsReady file blocked directions seats out table work) where
-  pub counting_file : first_no file ≡ Passed
+  pub counting_file : first_no file ≡ Ok tt
   counting_file = (run_yes file blocked seats ready.records_ready.passed).file_passed
 
   pub counting_all : {total : ℕ} → total ≡ polygon_total (decode file) → total < 2 ^ 32 → Counting file blocked directions seats out out table work total 0

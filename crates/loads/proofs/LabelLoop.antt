@@ -1,8 +1,8 @@
 -- Question 19 deck by deck, and the labels of all decks one after the other in the work.
-use Prim.Native.Nat.{ℕ, ◌+◌, ◌*◌, ◌-◌, ◌^◌, ◌≤◌, ◌<◌}
+use Prim.Native.Nat.{ℕ, zero, suc, ◌+◌, ◌*◌, ◌-◌, ◌^◌, ◌≤◌, ◌<◌}
 use native.Mathlib.Omega.{arith}
 use mathlib.Core.Path.{◌≡◌, refl, sym, ap, ◌∙◌}
-use mathlib.Core.Bool.{Bool, true, false, not}
+use mathlib.Core.Bool.{Bool, true, false, not, ◌&&◌}
 use mathlib.Core.List.{List, [], ◌++◌, append_assoc, append-nil}
 use mir.Syntax.{w64}
 use mir.Val.{Fits}
@@ -10,22 +10,21 @@ use borrow.Rule.Slice.PartMut.{put_mid}
 use lib.ListN.{length, get_or, take, drop, replicate, length-append, length-drop, length-replicate, drop_of_length-le}
 use lib.Seq.{length-take-le, drop-drop, take_all}
 use Rattle.words.specs.Bytes.{u32_at, bytes4, joined, words_of, splice}
-use Rattle.words.specs.Rows.{collect_all, sum_all}
+use Rattle.words.specs.Rows.{every, collect_all, sum_all}
 use Rattle.words.proofs.Collecting.{collect_yes, collect_none, sum_same, length_collect}
 use Rattle.words.proofs.Splice.{splice_splice, splice_nil, length_splice}
 use Rattle.words.proofs.Writing.{joined_append}
 use Rattle.words.proofs.Numbers.{length_words, splice_front, words_read}
-use Rattle.answers.specs.declared.Check.{Check}
-use Rattle.answers.specs.declared.Check.TheVariants.{Passed, No}
-use Rattle.answers.specs.Checks.{ask, after, check_each}
-use Rattle.answers.proofs.Asking.{asking, Checked, checked_all, checked_none, checked_more, checked_stop, said_no, said_yes, asked_yes, each_passed}
-use Rattle.ship.specs.declared.Blocks.{Blocks}
-use Rattle.ship.specs.Layout.{number_size, decks_in, blocks_at}
+use Rattle.answers.specs.Checks.{ask, after, check_each, Check}
+use Rattle.answers.proofs.Asking.{asking, said_no, said_yes, asked_yes, each_passed}
+use Rattle.std.specs.Prelude.{Ok, Err}
+use Rattle.answers.specs.declared.Refusal.TheVariants.{NoSuchNeighbour}
+use Rattle.ship.specs.Layout.{number_size, decks_in}
 use Rattle.ship.specs.Model.{Deck, Ship, deck_of, polygons_before, polygon_total}
-use Rattle.ship.specs.Decode.{deck_at, decode}
-use Rattle.ship.specs.Questions.{first_no, DeckOfPassed}
-use Rattle.ship.proofs.Facts.{sound}
-use Rattle.ship.proofs.ModelFacts.{deck_of_lem, decks_length, polygons_length}
+use Rattle.ship.specs.Decode.{decode}
+use Rattle.ship.specs.Questions.{first_no}
+use Rattle.ship.specs.Within.{DeckWithin}
+use Rattle.ship.proofs.ModelFacts.{decks_length}
 use Rattle.islands.specs.Islands.{polygon_count, deck_labels, question19}
 use Rattle.islands.specs.Walk.{LabelReady, LabelsPut}
 use Rattle.islands.proofs.IslandsCall.{labels_many}
@@ -38,36 +37,37 @@ use Rattle.loads.proofs.SheetLaws.{entry_inside, in_lists, labels_of}
 
 -- ---- `labels_check`
 abbrev pub check19 : List ℕ → ℕ → Check
-check19 file d = ask (question19 (deck_of (decode file) d)) 19 Passed
+check19 file d = ask (question19 (deck_of (decode file) d)) NoSuchNeighbour (Ok tt)
 
--- where deck d lies, and what was said of it
-module _ (file : List ℕ) {decks d : ℕ} (t : Checked (check19 file) decks d) (all : decks ≡ decks_in file) (h : d < decks) {b : Blocks} (is : b ≡ blocks_at file d)
-    {inside : Bool} (said : inside ≡ question19 (deck_at file b)) where
-  same_deck : question19 (deck_at file b) ≡ question19 (deck_of (decode file) d)
-  same_deck = ap question19 (ap (deck_at file) is ∙ sym (deck_of_lem file d (omega arith)))
+-- one question of all decks, since each would refuse alike
+one_question : (p : ℕ → Bool) (n i : ℕ) → check_each (λ d. ask (p d) NoSuchNeighbour (Ok tt)) i n ≡ ask (every p i n) NoSuchNeighbour (Ok tt)
+unfolding check_each every
+one_question p zero i = refl
+one_question p (suc n) i = rw (one_question p n (i + 1)) (go (p i))
+  where
+    go : (b : Bool) → after (ask b NoSuchNeighbour (Ok tt)) (ask (every p (i + 1) n) NoSuchNeighbour (Ok tt)) ≡ ask (b && every p (i + 1) n) NoSuchNeighbour (Ok tt)
+    go true = refl
+    go false = refl
 
-  pub labels_more : not inside ≡ false → Checked (check19 file) decks (d + 1)
-  labels_more passed = checked_more t h refl (rw (sym same_deck ∙ said_yes said passed))
-
-  pub labels_stop : not inside ≡ true → No 19 ≡ labels_check (decode file)
+module _ (file : List ℕ) {inside : Bool} (said : inside ≡ every (λ d. question19 (deck_of (decode file) d)) 0 (decks_in file)) where
+  labels_are : ask inside NoSuchNeighbour (Ok tt) ≡ labels_check (decode file)
   unfolding labels_check
-  labels_stop failed = checked_stop t h refl (rw (sym same_deck ∙ said_no said failed)) ∙ rw (all ∙ sym (decks_length file))
+  labels_are = rw (said, ← decks_length file) (sym (one_question (λ d. question19 (deck_of (decode file) d)) (length (decode file).decks) 0))
 
-pub labels_none : (file : List ℕ) {decks d : ℕ} → Checked (check19 file) decks d → decks ≡ decks_in file → decks ≤ d → Passed ≡ labels_check (decode file)
-unfolding labels_check
-labels_none file t all h = checked_none t h ∙ rw (all ∙ sym (decks_length file))
+  pub labels_no : not inside ≡ true → Err NoSuchNeighbour ≡ labels_check (decode file)
+  labels_no e = rw (said_no refl e) at labels_are
 
-pub deck_there : (file : List ℕ) {decks d : ℕ} → decks ≡ decks_in file → d < decks → d < decks_in file
-deck_there file all h = omega arith
+  pub labels_yes : not inside ≡ false → Ok tt ≡ labels_check (decode file)
+  labels_yes e = rw (said_yes refl e) at labels_are
 
-pub ruleset label_asks = (checked_all, labels_more, labels_stop, labels_none, deck_there)
+pub ruleset label_asks = (labels_no, labels_yes)
 
 -- ---- `loads_check`
 pub loads_is : (file blocked seats : List ℕ) {v : Check} → v ≡ after (run_check file blocked seats) (labels_check (decode file)) → v ≡ loads_check file blocked seats
 unfolding loads_check
 loads_is file blocked seats e = e
 
-pub loads_file : (file blocked seats : List ℕ) {r : Check} → r ≡ run_check file blocked seats → r ≡ Passed → first_no file ≡ Passed
+pub loads_file : (file blocked seats : List ℕ) {r : Check} → r ≡ run_check file blocked seats → r ≡ Ok tt → first_no file ≡ Ok tt
 loads_file file blocked seats asked passed = (run_yes file blocked seats (sym asked ∙ passed)).file_passed
 
 pub ruleset Load-asks = (asking, loads_is, loads_file)
@@ -81,45 +81,43 @@ put_part s xs part at l e =
     let end : length s ≤ at + (length s - at) = omega arith in
     rw (e, take_all (length s - at) (drop at s) long, drop-drop (length xs) at s) (simp (append_assoc, drop_of_length-le, append-nil))
 
-module _ {file table work : List ℕ} {d at : ℕ} (ready : DeckReady file d at table work) {b : Blocks} (is : b ≡ blocks_at file d) (deck : DeckOfPassed file b) where
-  deck_is : deck_of (decode file) d ≡ deck_at file b
-  deck_is = deck_of_lem file d ready.there ∙ ap (deck_at file) (sym is)
-
-  polygons_are : polygon_count (deck_of (decode file) d) ≡ b.polygons
-  polygons_are = ap (λ (k : Deck). polygon_count k) deck_is ∙ polygons_length file b
-
+module _ {file table work : List ℕ} {d at : ℕ} (ready : DeckReady file d at table work) where
   pub part_inside : at ≤ length work
   part_inside = omega (arith, ready.room)
 
   part_long : length (take (length work - at) (drop at work)) ≡ length work - at
   part_long = length-take-le (length work - at) (drop at work) (rw (length-drop at work) (omega arith))
 
-  pub part_ready : LabelReady file b (take (length work - at) (drop at work)) table
-  part_ready =
-      record {
-        deck_passed = deck;
-        entries_inside = sym (ap question19 deck_is) ∙ ready.yes19;
-        room = rw part_long (omega (arith, ready.room, polygons_are));
-        wide = omega (arith, ready.wide, polygons_are);
-      }
+  module _ {deck : Deck} (is : deck ≡ deck_of (decode file) d) where
+    polygons_are : polygon_count deck ≡ polygon_count (deck_of (decode file) d)
+    polygons_are = ap (λ (k : Deck). polygon_count k) is
 
-  pub part_scaled : Fits w64 (number_size * b.polygons)
-  part_scaled = record { fits = omega (arith, (sound deck).few_polygons) }
+    pub part_ready : LabelReady deck (take (length work - at) (drop at work)) table
+    part_ready =
+        record {
+          entries_inside = ap question19 is ∙ ready.yes19;
+          room = rw part_long (omega (arith, ready.room, polygons_are));
+          wide = omega (arith, ready.wide, polygons_are);
+        }
 
-  pub part_next : length work < 2 ^ 64 → Fits w64 (at + number_size * b.polygons)
-  part_next long = record { fits = omega (arith, ready.room, polygons_are) }
+    module _ {n : ℕ} (counted : n ≡ length deck.polygons) where
+      pub part_scaled : DeckWithin deck → Fits w64 (number_size * n)
+      part_scaled within = record { fits = omega (arith, counted, within.few_polygons) }
 
-  pub part_labelled : {table' part' work' : List ℕ} → LabelsPut (deck_at file b) b.polygons (take (length work - at) (drop at work)) part' table table'
-      → work' ≡ put_mid at (length work - at) work part' → DeckLabelled file d at table table' work work' (at + number_size * b.polygons)
-  part_labelled {table'} {part'} {work'} put put_back =
-      let labels = words_of (deck_labels (deck_of (decode file) d)) in
-      let size : length labels ≡ number_size * b.polygons =
-      length_words (deck_labels (deck_of (decode file) d)) ∙ ap (λ (n : ℕ). number_size * n) (labels_many (deck_of (decode file) d) ∙ polygons_are) in
-      record {
-        table_is = put.work_is;
-        work_is = put_back ∙ put_part work labels part' at (omega (arith, ready.room)) (put.out_is ∙ rw (← deck_is, size));
-        next_is = omega (arith, polygons_are);
-      }
+      pub part_next : length work < 2 ^ 64 → Fits w64 (at + number_size * n)
+      part_next long = record { fits = omega (arith, ready.room, counted, polygons_are) }
+
+      pub part_labelled : {table' part' work' : List ℕ} → LabelsPut deck (take (length work - at) (drop at work)) part' table table'
+          → work' ≡ put_mid at (length work - at) work part' → DeckLabelled file d at table table' work work' (at + number_size * n)
+      part_labelled {table'} {part'} {work'} put put_back =
+          let labels = words_of (deck_labels (deck_of (decode file) d)) in
+          let size : length labels ≡ number_size * polygon_count (deck_of (decode file) d) =
+          length_words (deck_labels (deck_of (decode file) d)) ∙ ap (λ (m : ℕ). number_size * m) (labels_many (deck_of (decode file) d)) in
+          record {
+            table_is = put.work_is;
+            work_is = put_back ∙ put_part work labels part' at (omega (arith, ready.room)) (put.out_is ∙ rw (is, size));
+            next_is = omega (arith, counted, polygons_are);
+          }
 
 pub ruleset part_labels = (part_inside, part_ready, part_scaled, part_next, part_labelled)
 
@@ -130,7 +128,7 @@ labels_from file d = collect_all (λ j. deck_labels (deck_of (decode file) j)) d
 
 -- those of the decks below d are written
 pub record Labelling (file work₀ table work : List ℕ) (at d : ℕ) : Type 0 where
-  pub yes19 : labels_check (decode file) ≡ Passed
+  pub yes19 : labels_check (decode file) ≡ Ok tt
   pub zeros : table ≡ replicate (count_size * sheet_length (decode file)) 0
   pub long : length work ≡ length work₀
   pub left : length (labels_from file d) ≤ polygon_total (decode file)
@@ -164,7 +162,7 @@ label_in_work ship work labels d k h l =
 from_first : (file : List ℕ) → labels_from file 0 ≡ all_labels (decode file)
 from_first file = let e : decks_in file - 0 ≡ length (decode file).decks = omega (arith, decks_length file) in rw e
 
-checked_decks : (file : List ℕ) → labels_check (decode file) ≡ Passed → check_each (check19 file) 0 (decks_in file) ≡ Passed
+checked_decks : (file : List ℕ) → labels_check (decode file) ≡ Ok tt → check_each (check19 file) 0 (decks_in file) ≡ Ok tt
 unfolding labels_check
 checked_decks file e = rw (← decks_length file) e
 
@@ -210,12 +208,12 @@ module _ {file work₀ table work : List ℕ} {at d decks : ℕ} (t : Labelling 
   from_long : length (labels_from file d) ≡ polygon_count here + length (labels_from file (d + 1))
   from_long = ap length from_here ∙ length-append (deck_labels here) (labels_from file (d + 1)) ∙ rw (labels_many here)
 
-  pub labelling_ready : first_no file ≡ Passed → DeckReady file d at table work
+  pub labelling_ready : first_no file ≡ Ok tt → DeckReady file d at table work
   labelling_ready passed =
       record {
         passed = passed;
         there = omega arith;
-        yes19 = (asked_yes (question19 here) 19 Passed (each_passed (check19 file) (decks_in file) (checked_decks file t.yes19) d (omega arith))).0;
+        yes19 = (asked_yes (question19 here) NoSuchNeighbour (Ok tt) (each_passed (check19 file) (decks_in file) (checked_decks file t.yes19) d (omega arith))).0;
         wide = rw (t.zeros, length-replicate) (omega (arith, t.left, from_long));
         room = omega (arith, t.room, from_long);
       }

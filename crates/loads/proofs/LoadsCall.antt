@@ -11,15 +11,15 @@ use Rattle.ring.specs.Table.{directions}
 use Rattle.words.specs.Bytes.{words_of, bytes4, bytes8, joined, counts_of}
 use Rattle.words.proofs.Numbers.{length_words}
 use Rattle.words.proofs.TableRows.{both}
-use Rattle.answers.specs.declared.Check.{Check}
-use Rattle.answers.specs.declared.Check.TheVariants.{Passed}
-use Rattle.answers.specs.declared.Answer.TheVariants.{Refused, Wrote}
 use Rattle.answers.specs.Questions.{question20}
 use Rattle.answers.proofs.Asking.{said_no, said_yes, q20_short, q20_fits}
 use Rattle.answers.proofs.Replying.{tabled_refused, tabled_short, tabled_narrow, tabled_idle, tabled_written}
+use Rattle.answers.specs.Checks.{Check}
+use Rattle.std.specs.Prelude.{Ok, Err}
+use Rattle.answers.specs.declared.Refusal.TheVariants.{NoRoom}
 use Rattle.records.specs.Record.{record_size}
 use Rattle.ship.specs.Layout.{number_size, decks_in}
-use Rattle.ship.specs.Model.{Ship, polygon_total}
+use Rattle.ship.specs.Model.{polygon_total}
 use Rattle.ship.specs.Decode.{decode}
 use Rattle.ship.specs.Questions.{first_no}
 use Rattle.ship.proofs.ModelFacts.{decks_length}
@@ -100,26 +100,9 @@ sheet_bound few l = omega arith
 
 pub ruleset sheet_size = (sheet_many, sheet_bound)
 
--- ---- `rooms_fit`: what was said of the three
-module _ (ship : Ship) (seats out table work : ℕ) {a : Bool} (out-said : a ≡ question20 (record_size * seats) out) where
-  pub rooms_out : not a ≡ true → false ≡ rooms_fit ship seats out table work
-  unfolding rooms_fit
-  rooms_out said = rw (said_no out-said said)
-
-  module _ (out_fits : not a ≡ false) {n : ℕ} {b : Bool} (long : n ≡ sheet_length ship) (table-said : b ≡ question20 (count_size * n) table) where
-    pub rooms_table : not b ≡ true → false ≡ rooms_fit ship seats out table work
-    unfolding rooms_fit
-    rooms_table said = rw (said_yes out-said out_fits, rw long at (said_no table-said said))
-
-    pub rooms_work : not b ≡ false → {total : ℕ} {c : Bool} → total ≡ polygon_total ship → c ≡ question20 (count_size * total) work → c ≡ rooms_fit ship seats out table work
-    unfolding rooms_fit
-    rooms_work table_fits all said = rw (said_yes out-said out_fits, rw long at (said_yes table-said table_fits)) (said ∙ rw all)
-
-pub ruleset rooms = (rooms_out, rooms_table, rooms_work)
-
 -- ---- `put_table`
 module _ {file blocked seats out table work : List ℕ} (ready : TableReady file blocked seats out table work) where
-  pub table_file : first_no file ≡ Passed
+  pub table_file : first_no file ≡ Ok tt
   table_file = (run_yes file blocked seats (loads_parts file blocked seats ready.passed).0).file_passed
 
   module _ {n : ℕ} (long : n ≡ sheet_length (decode file)) where
@@ -139,8 +122,8 @@ module _ {file blocked seats out table work : List ℕ} (ready : TableReady file
 pub ruleset table_putting = (table_file, table_inside, table_part, table_ready, table_put)
 
 -- ---- `run_loads`: what the check returned, and what was said of the three rooms
-module _ (file blocked seats : List ℕ) {c : Check} (asked : c ≡ loads_check file blocked seats) (passed : c ≡ Passed) where
-  pub call_file : first_no file ≡ Passed
+module _ (file blocked seats : List ℕ) {c : Check} (asked : c ≡ loads_check file blocked seats) (passed : c ≡ Ok tt) where
+  pub call_file : first_no file ≡ Ok tt
   call_file = (run_yes file blocked seats (loads_parts file blocked seats (sym asked ∙ passed)).0).file_passed
 
   module _ (out table work : List ℕ) {fits : Bool} (said : fits ≡ rooms_fit (decode file) (seat_count seats) (length out) (length table) (length work)) where
@@ -153,11 +136,11 @@ module _ (file blocked seats : List ℕ) {c : Check} (asked : c ≡ loads_check 
     abbrev work_fits : Bool
     work_fits = question20 (count_size * polygon_total (decode file)) (length work)
 
-    pub call_short : not fits ≡ true → LoadsReplied file blocked seats out out table table work work (Refused 20)
+    pub call_short : not fits ≡ true → LoadsReplied file blocked seats out out table table work work (Err NoRoom)
     unfolding rooms_fit
     call_short no_room = go out_fits table_fits refl refl (said_no said no_room)
       where
-        go : (o t : Bool) → out_fits ≡ o → table_fits ≡ t → (o && (t && work_fits)) ≡ false → LoadsReplied file blocked seats out out table table work work (Refused 20)
+        go : (o t : Bool) → out_fits ≡ o → table_fits ≡ t → (o && (t && work_fits)) ≡ false → LoadsReplied file blocked seats out out table table work work (Err NoRoom)
         go false t eo et e = tabled_short asked passed (rw (reply_long file blocked seats) (q20_short (record_size * seat_count seats) (length out) eo))
         go true false eo et e = tabled_narrow asked passed (rw (sheet_bytes_long file blocked seats) (q20_short (count_size * sheet_length (decode file)) (length table) et))
         go true true eo et e = tabled_idle asked passed (q20_short (count_size * polygon_total (decode file)) (length work) e)
@@ -177,23 +160,23 @@ module _ (file blocked seats : List ℕ) {c : Check} (asked : c ≡ loads_check 
           }
 
       module _ {out' table' work' : List ℕ} (put : TablePut file blocked seats out out' table table' work work') where
-        pub call_replied : LoadsReplied file blocked seats out out' table table' work work' (Wrote (seat_count seats))
+        pub call_replied : LoadsReplied file blocked seats out out' table table' work work' (Ok (seat_count seats))
         call_replied =
             let long = reply_long file blocked seats in
             let bytes-long = sheet_bytes_long file blocked seats in
             tabled_written asked passed (omega (arith, long, call_ready.room)) (omega (arith, bytes-long, call_ready.table_room)) call_ready.wide
             (sym (run_length (decode file) blocked seats)) (put.records ∙ rw long) (put.sheet ∙ rw bytes-long) put.zeros
 
-        pub call_surveyed : Surveyed file blocked seats (Wrote (seat_count seats)) out'
+        pub call_surveyed : Surveyed file blocked seats (Ok (seat_count seats)) out'
         call_surveyed = loads_surveyed file blocked (lent_of seats out table work) call_replied
 
-        pub call_unsearched : BlockedUnplaced file blocked seats (Wrote (seat_count seats)) out'
+        pub call_unsearched : BlockedUnplaced file blocked seats (Ok (seat_count seats)) out'
         call_unsearched = loads_unplaced file blocked (lent_of seats out table work) call_replied
 
-        pub call_totalled : Totalled file (Wrote (seat_count seats)) out' table'
+        pub call_totalled : Totalled file (Ok (seat_count seats)) out' table'
         call_totalled = totalled file blocked (lent_of seats out table work) call_replied
 
-        pub call_portioned : Portioned file blocked seats (Wrote (seat_count seats)) out' table'
+        pub call_portioned : Portioned file blocked seats (Ok (seat_count seats)) out' table'
         call_portioned = portioned file blocked (lent_of seats out table work) call_replied
 
 pub ruleset loads_call = (tabled_refused, call_file, call_short, call_ready, call_replied, call_surveyed, call_unsearched, call_totalled, call_portioned)

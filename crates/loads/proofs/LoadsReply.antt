@@ -7,15 +7,14 @@ use lib.ListN.{length, get_or, take, drop}
 use lib.Seq.{take_at}
 use Rattle.words.specs.Bytes.{count_at}
 use Rattle.words.proofs.Counts.{length_counts, counts_read}
-use Rattle.answers.specs.declared.Check.{Check}
-use Rattle.answers.specs.declared.Check.TheVariants.{Passed}
-use Rattle.answers.specs.declared.Answer.{Answer}
-use Rattle.answers.specs.declared.Answer.TheVariants.{Refused, Wrote}
-use Rattle.answers.specs.Checks.{ask, after}
+use Rattle.answers.specs.Checks.{ask, after, Check}
 use Rattle.answers.specs.Questions.{question20}
-use Rattle.answers.specs.Replies.{reply_check, table_to}
+use Rattle.answers.specs.Replies.{reply_check, table_to, Answer}
 use Rattle.answers.proofs.Asking.{asked_yes, both_passed, q20_yes, q20_fits}
 use Rattle.answers.proofs.Replying.{check_passed, passed_check, of_reply, answer_passed, output_passed}
+use Rattle.std.specs.Prelude.{Ok, Err}
+use Rattle.answers.specs.declared.Refusal.{Refusal}
+use Rattle.answers.specs.declared.Refusal.TheVariants.{NoRoom}
 use Rattle.records.specs.Record.{record_size, record_bytes, records_bytes, records_in, record_slice}
 use Rattle.records.proofs.ReadBack.{records_length, slice_written, records_written}
 use Rattle.ship.specs.Decode.{decode}
@@ -28,11 +27,11 @@ use Rattle.loads.proofs.SheetLaws.{sheet_length_lem}
 
 -- ---- the questions, and how much is written
 module _ (file blocked seats : List ℕ) where
-  pub loads_parts : loads_check file blocked seats ≡ Passed → (run_check file blocked seats ≡ Passed) × (labels_check (decode file) ≡ Passed)
+  pub loads_parts : loads_check file blocked seats ≡ Ok tt → (run_check file blocked seats ≡ Ok tt) × (labels_check (decode file) ≡ Ok tt)
   unfolding loads_check
   loads_parts h = both_passed (run_check file blocked seats) (labels_check (decode file)) h
 
-  pub loads_passed : run_check file blocked seats ≡ Passed → labels_check (decode file) ≡ Passed → loads_check file blocked seats ≡ Passed
+  pub loads_passed : run_check file blocked seats ≡ Ok tt → labels_check (decode file) ≡ Ok tt → loads_check file blocked seats ≡ Ok tt
   unfolding loads_check
   loads_passed a b = rw a b
 
@@ -44,17 +43,17 @@ module _ (file blocked seats : List ℕ) where
 
 -- ---- 20, of something lent beside the output
 module _ (c : Check) (wanted : ℕ) (lent : List ℕ) where
-  room_yes : c ≡ Passed → wanted ≤ length lent → after c (ask (question20 wanted (length lent)) 20 Passed) ≡ Passed
+  room_yes : c ≡ Ok tt → wanted ≤ length lent → after c (ask (question20 wanted (length lent)) NoRoom (Ok tt)) ≡ Ok tt
   room_yes e l = rw (e, q20_yes wanted (length lent) l)
 
-  yes_room : after c (ask (question20 wanted (length lent)) 20 Passed) ≡ Passed → (c ≡ Passed) × (wanted ≤ length lent)
+  yes_room : after c (ask (question20 wanted (length lent)) NoRoom (Ok tt)) ≡ Ok tt → (c ≡ Ok tt) × (wanted ≤ length lent)
   yes_room h =
       let a = both_passed c _ h in
-      (a.0, q20_fits wanted (length lent) (asked_yes (question20 wanted (length lent)) 20 Passed a.1).0)
+      (a.0, q20_fits wanted (length lent) (asked_yes (question20 wanted (length lent)) NoRoom (Ok tt) a.1).0)
 
 -- all that a call which is answered had: its questions passed, and room for the records, for the sheet and for the labels
 pub record Asked (file blocked : List ℕ) (lent : Lent) : Type 0 where
-  pub passed : loads_check file blocked lent.seats ≡ Passed
+  pub passed : loads_check file blocked lent.seats ≡ Ok tt
   pub out_room : record_size * seat_count lent.seats ≤ length lent.out
   pub table_room : count_size * sheet_length (decode file) ≤ length lent.table
   pub work_room : loads_work file ≤ length lent.work
@@ -68,18 +67,18 @@ module _ (file blocked : List ℕ) (lent : Lent) where
   wanted = length (sheet_bytes file blocked lent.seats)
 
   abbrev tabled : Check
-  tabled = after own (ask (question20 wanted (length lent.table)) 20 Passed)
+  tabled = after own (ask (question20 wanted (length lent.table)) NoRoom (Ok tt))
 
-  pub asked_passed : loads_check file blocked lent.seats ≡ Passed → record_size * seat_count lent.seats ≤ length lent.out
+  pub asked_passed : loads_check file blocked lent.seats ≡ Ok tt → record_size * seat_count lent.seats ≤ length lent.out
       → count_size * sheet_length (decode file) ≤ length lent.table → loads_work file ≤ length lent.work
-      → reply_check (asked_reply file blocked lent) (length lent.out) ≡ Passed
+      → reply_check (asked_reply file blocked lent) (length lent.out) ≡ Ok tt
   asked_passed passed out_room table_room work_room =
       let t = room_yes own wanted lent.table passed (omega (arith, table_room, sheet_bytes_long file blocked lent.seats)) in
       check_passed (asked_reply file blocked lent) (length lent.out)
       (room_yes tabled (loads_work file) lent.work t work_room)
       (omega (arith, out_room, records_bytes_long file blocked lent.seats))
 
-  module _ (passed : reply_check (asked_reply file blocked lent) (length lent.out) ≡ Passed) where
+  module _ (passed : reply_check (asked_reply file blocked lent) (length lent.out) ≡ Ok tt) where
     pub passed_asked : Asked file blocked lent
     passed_asked =
         let o = passed_check (asked_reply file blocked lent) (length lent.out) passed in
@@ -93,8 +92,8 @@ module _ (file blocked : List ℕ) (lent : Lent) where
         }
 
     -- ---- what it answers and leaves
-    pub answer_asked : loads_answer file blocked lent ≡ Wrote (seat_count lent.seats)
-    answer_asked = answer_passed (asked_reply file blocked lent) lent.out passed ∙ ap Wrote (run_length (decode file) blocked lent.seats)
+    pub answer_asked : loads_answer file blocked lent ≡ Ok (seat_count lent.seats)
+    answer_asked = answer_passed (asked_reply file blocked lent) lent.out passed ∙ ap Ok (run_length (decode file) blocked lent.seats)
 
     pub output_asked : loads_output file blocked lent ≡ records_bytes (run_records file blocked lent.seats) ++ drop (record_size * seat_count lent.seats) lent.out
     output_asked =
@@ -131,8 +130,8 @@ module _ (file blocked : List ℕ) (lent : Lent) where
         rw table_asked (counts_read (run_sheet file blocked lent.seats) _ k (omega (arith, sheet_length_lem (decode file) (run_records file blocked lent.seats))))
 
   -- what holds of the answer of every call: it was refused, or it passed and wrote a record a seat
-  pub of_loads : (P : Answer → Type 0) → ((number : ℕ) → P (Refused number))
-      → (reply_check (asked_reply file blocked lent) (length lent.out) ≡ Passed → P (Wrote (seat_count lent.seats))) → P (loads_answer file blocked lent)
+  pub of_loads : (P : Answer → Type 0) → ((number : Refusal) → P (Err number))
+      → (reply_check (asked_reply file blocked lent) (length lent.out) ≡ Ok tt → P (Ok (seat_count lent.seats))) → P (loads_answer file blocked lent)
   of_loads P refused wrote =
       of_reply (asked_reply file blocked lent) lent.out P refused
-      (λ e. subst⁻¹ (λ (n : ℕ). P (Wrote n)) (run_length (decode file) blocked lent.seats) (wrote e))
+      (λ e. subst⁻¹ (λ (n : ℕ). P (Ok n)) (run_length (decode file) blocked lent.seats) (wrote e))

@@ -4,11 +4,9 @@ use native.Mathlib.Omega.{arith}
 use mathlib.Core.Path.{◌≡◌, refl, sym, ◌∙◌}
 use mathlib.Core.List.{List}
 use lib.ListN.{length}
-use Rattle.answers.specs.declared.Check.TheVariants.{Passed}
-use Rattle.answers.specs.declared.Answer.{Answer}
-use Rattle.answers.specs.declared.Answer.TheVariants.{Wrote}
-use Rattle.answers.specs.Replies.{reply_check, Replied}
+use Rattle.answers.specs.Replies.{reply_check, Replied, Answer}
 use Rattle.answers.proofs.Replying.{replied_written}
+use Rattle.std.specs.Prelude.{Ok}
 use Rattle.ship.specs.Decode.{decode}
 use Rattle.seat_run.specs.SeatFile.{seat_count}
 use Rattle.seat_run.specs.Run.{run_reply}
@@ -21,8 +19,8 @@ use Rattle.loads.specs.Loads.{Lent, asked_reply, loads_output, LoadsReplied, Sur
 use Rattle.loads.proofs.LoadsReply.{passed_asked, loads_parts, output_asked, of_loads}
 
 module _ (file blocked : List ℕ) (lent : Lent) where
-  as_run : reply_check (asked_reply file blocked lent) (length lent.out) ≡ Passed
-      → Replied (run_reply file blocked lent.seats) lent.out (loads_output file blocked lent) (Wrote (seat_count lent.seats))
+  as_run : reply_check (asked_reply file blocked lent) (length lent.out) ≡ Ok tt
+      → Replied (run_reply file blocked lent.seats) lent.out (loads_output file blocked lent) (Ok (seat_count lent.seats))
   as_run passed =
       let all = passed_asked file blocked lent passed in
       let long = reply_long file blocked lent.seats in

@@ -13,12 +13,10 @@ use Rattle.words.specs.Bytes.{u32_at, joined, count_at}
 use Rattle.words.specs.Rows.{rows, All, added}
 use Rattle.words.proofs.TableRows.{both, rows_same, rows_append, all_map}
 use Rattle.words.proofs.Writing.{joined_append}
-use Rattle.answers.specs.declared.Check.TheVariants.{Passed}
-use Rattle.answers.specs.declared.Answer.{Answer}
-use Rattle.answers.specs.declared.Answer.TheVariants.{Wrote}
 use Rattle.answers.specs.Questions.{question14}
-use Rattle.answers.specs.Replies.{reply_check}
+use Rattle.answers.specs.Replies.{reply_check, Answer}
 use Rattle.answers.proofs.Asking.{each_passed, passed_each}
+use Rattle.std.specs.Prelude.{Ok}
 use Rattle.records.specs.declared.SeatRecord.{SeatRecord}
 use Rattle.records.specs.Record.{record_bytes, records_bytes, record_slice}
 use Rattle.ship.specs.Layout.{decks_in}
@@ -88,11 +86,11 @@ rows_shift f g k (suc n) i same =
 
 -- ---- the run of a list in two portions
 module _ (file blocked front back : List ℕ) (whole : length front % seat_size ≡ 0) where
-  module _ (passed : run_check file blocked (front ++ back) ≡ Passed) where
+  module _ (passed : run_check file blocked (front ++ back) ≡ Ok tt) where
     asked : RunPassed file blocked (front ++ back)
     asked = run_yes file blocked (front ++ back) passed
 
-    each_seat : (i : ℕ) → i < seat_count front + seat_count back → seat_check (front ++ back) (decks_in file) i ≡ Passed
+    each_seat : (i : ℕ) → i < seat_count front + seat_count back → seat_check (front ++ back) (decks_in file) i ≡ Ok tt
     each_seat i h =
         each_passed (seat_check (front ++ back) (decks_in file)) (seat_count (front ++ back)) asked.seats_passed i (omega (arith, count_append front back whole))
 
@@ -102,7 +100,7 @@ module _ (file blocked front back : List ℕ) (whole : length front % seat_size 
     yes14_of seats w =
         rw ((both (question14 blocked) (eqb (length (front ++ back) % seat_size) 0) asked.yes14).0, eq-eqb (length seats % seat_size) 0 w)
 
-    pub run_front : run_check file blocked front ≡ Passed
+    pub run_front : run_check file blocked front ≡ Ok tt
     run_front =
         run_passed file blocked front
         (record {
@@ -111,7 +109,7 @@ module _ (file blocked front back : List ℕ) (whole : length front % seat_size 
           seats_passed = passed_each (seat_check front (decks_in file)) (seat_count front) (λ i h. sym (check_front front back i h (decks_in file)) ∙ each_seat i (omega arith));
         })
 
-    pub run_back : length back % seat_size ≡ 0 → run_check file blocked back ≡ Passed
+    pub run_back : length back % seat_size ≡ 0 → run_check file blocked back ≡ Ok tt
     run_back w =
         run_passed file blocked back
         (record {
@@ -152,25 +150,25 @@ module _ (file blocked front back : List ℕ) (whole : length front % seat_size 
   entry_sum k = rw sheet_sum (get_d_added (run_sheet file blocked front) (run_sheet file blocked back) k)
 
 -- ---- a portion is answered where the questions of its seats pass: it has the room
-pub portion_answered : (file blocked : List ℕ) (lent : Lent) → Portion file lent → loads_check file blocked lent.seats ≡ Passed
-    → reply_check (asked_reply file blocked lent) (length lent.out) ≡ Passed
+pub portion_answered : (file blocked : List ℕ) (lent : Lent) → Portion file lent → loads_check file blocked lent.seats ≡ Ok tt
+    → reply_check (asked_reply file blocked lent) (length lent.out) ≡ Ok tt
 portion_answered file blocked lent p e = asked_passed file blocked lent e p.out_room p.table_room p.work_room
 
 -- ---- the theorem, of two portions
-module _ (file blocked : List ℕ) (lent : Lent) (passed : reply_check (asked_reply file blocked lent) (length lent.out) ≡ Passed) (front back : Lent)
+module _ (file blocked : List ℕ) (lent : Lent) (passed : reply_check (asked_reply file blocked lent) (length lent.out) ≡ Ok tt) (front back : Lent)
     (split : lent.seats ≡ front.seats ++ back.seats) (pf : Portion file front) (pb : Portion file back) where
-  both_asked : (run_check file blocked (front.seats ++ back.seats) ≡ Passed) × (loads_check file blocked (front.seats ++ back.seats) ≡ Passed)
+  both_asked : (run_check file blocked (front.seats ++ back.seats) ≡ Ok tt) × (loads_check file blocked (front.seats ++ back.seats) ≡ Ok tt)
   both_asked =
       let a = rw split at (passed_asked file blocked lent passed).passed in
       ((loads_parts file blocked (front.seats ++ back.seats) a).0, a)
 
-  front_passed : reply_check (asked_reply file blocked front) (length front.out) ≡ Passed
+  front_passed : reply_check (asked_reply file blocked front) (length front.out) ≡ Ok tt
   front_passed =
       portion_answered file blocked front pf
       (loads_passed file blocked front.seats (run_front file blocked front.seats back.seats pf.whole both_asked.0)
       (loads_parts file blocked (front.seats ++ back.seats) both_asked.1).1)
 
-  back_passed : reply_check (asked_reply file blocked back) (length back.out) ≡ Passed
+  back_passed : reply_check (asked_reply file blocked back) (length back.out) ≡ Ok tt
   back_passed =
       portion_answered file blocked back pb
       (loads_passed file blocked back.seats (run_back file blocked front.seats back.seats pf.whole both_asked.0 pb.whole)
@@ -209,7 +207,7 @@ module _ (file blocked : List ℕ) (lent : Lent) (passed : reply_check (asked_re
 -- ---- of any number of portions
 module _ (file blocked : List ℕ) where
   abbrev Answered : Lent → Type 0
-  Answered lent = reply_check (asked_reply file blocked lent) (length lent.out) ≡ Passed
+  Answered lent = reply_check (asked_reply file blocked lent) (length lent.out) ≡ Ok tt
 
   -- a run on no seats has no records, and its sheet is all zeros: it is what is left when it is added to itself
   no_entry : (k : ℕ) → get_or (run_sheet file blocked []) k 0 ≡ 0
@@ -225,7 +223,7 @@ module _ (file blocked : List ℕ) where
   whole_seats (lent ∷ portions) p = rw length-append (omega (arith, p.0.whole, whole_seats portions p.1))
 
   -- each passes its questions, as the front of the portions that are left
-  all_answered : labels_check (decode file) ≡ Passed → (portions : List Lent) → All (Portion file) portions → run_check file blocked (seats_in portions) ≡ Passed
+  all_answered : labels_check (decode file) ≡ Ok tt → (portions : List Lent) → All (Portion file) portions → run_check file blocked (seats_in portions) ≡ Ok tt
       → All Answered portions
   unfolding joined
   all_answered labels [] p h = tt
@@ -256,7 +254,7 @@ module _ (file blocked : List ℕ) where
       ap₂ ◌+◌ (table_read file blocked lent a.0 k h) (all_tables k h portions p.1 a.1)
       ∙ sym (entry_sum file blocked lent.seats (seats_in portions) p.0.whole k)
 
-all_join : (file blocked : List ℕ) (lent : Lent) → reply_check (asked_reply file blocked lent) (length lent.out) ≡ Passed
+all_join : (file blocked : List ℕ) (lent : Lent) → reply_check (asked_reply file blocked lent) (length lent.out) ≡ Ok tt
     → (portions : List Lent) → seats_in portions ≡ lent.seats → All (Portion file) portions
     → AllJoin file blocked (seat_count lent.seats) (loads_output file blocked lent) (loads_table file blocked lent) portions
 all_join file blocked lent passed portions split p =
@@ -264,7 +262,7 @@ all_join file blocked lent passed portions split p =
     let a = all_answered file blocked asked.1 portions p (rw split asked.0) in
     record {
       answers =
-          all_map (Answered file blocked) (λ portion. loads_answer file blocked portion ≡ Wrote (seat_count portion.seats))
+          all_map (Answered file blocked) (λ portion. loads_answer file blocked portion ≡ Ok (seat_count portion.seats))
           (λ portion e. answer_asked file blocked portion e) portions a;
       in_all = all_counted file blocked portions p ∙ ap seat_count split;
       records =

@@ -14,11 +14,10 @@ use Rattle.words.specs.Rows.{added}
 use Rattle.words.proofs.Collecting.{sum_same}
 use Rattle.words.proofs.TableRows.{all_rows}
 use Rattle.words.proofs.Counts.{counts_read, length_counts}
-use Rattle.answers.specs.declared.Answer.{Answer}
-use Rattle.answers.specs.declared.Check.TheVariants.{Passed}
-use Rattle.answers.specs.Replies.{table_to}
+use Rattle.answers.specs.Replies.{table_to, Answer}
 use Rattle.answers.proofs.Asking.{both_passed}
 use Rattle.answers.proofs.Replying.{of_reply, passed_check, output_passed}
+use Rattle.std.specs.Prelude.{Ok}
 use Rattle.records.specs.declared.SeatRecord.{SeatRecord}
 use Rattle.records.specs.Record.{records_in}
 use Rattle.records.proofs.ReadBack.{records_written}
@@ -57,7 +56,7 @@ from_back_lem labels (r ∷ records) =
     rw (from_back_lem labels records) (added_comm (sheet_of labels records) (sheet_of labels (r ∷ [])) ∙ sym (sheet_append labels (r ∷ []) records))
 
 -- ---- a run that passed
-module _ (file blocked seats : List ℕ) (passed : run_check file blocked seats ≡ Passed) where
+module _ (file blocked seats : List ℕ) (passed : run_check file blocked seats ≡ Ok tt) where
   -- a seat that is placed has the polygon of a candidate
   pub record_aboard : (i : ℕ) → i < seat_count seats → Aboard (decode file) (record_of_seat (decode file) blocked seats i).polygon
   unfolding shown_from

@@ -1,8 +1,7 @@
 -- What counting a seat does to the table, and what the functions that count need and leave.
-use Rattle.std.specs.Prelude.{ℕ, ◌+◌, ◌*◌, ◌^◌, ◌≤◌, ◌<◌, ◌≡◌, Bool, true, cond, ◌&&◌, ◌⊎◌, List, [], ◌++◌, eqb, ℤ, length, get_or, drop, replicate}
+use Rattle.std.specs.Prelude.{ℕ, ◌+◌, ◌*◌, ◌^◌, ◌≤◌, ◌<◌, ◌≡◌, Bool, true, cond, ◌&&◌, ◌⊎◌, List, [], ◌++◌, eqb, ℤ, length, get_or, drop, replicate, Ok}
 use Rattle.words.specs.Bytes.{all_ones, words_of, counts_of, count_at, splice, put_u64}
 use Rattle.words.specs.Rows.{collect_all}
-use Rattle.answers.specs.declared.Check.TheVariants.{Passed}
 use Rattle.answers.specs.Questions.{question20}
 use Rattle.records.specs.Record.{record_size}
 use Rattle.ship.specs.Layout.{number_size, decks_in}
@@ -62,7 +61,7 @@ LabelsIn ship work = (rest : List ℕ) × (work ≡ words_of (all_labels ship) +
 
 -- of one deck
 pub record DeckReady (file : List ℕ) (d at : ℕ) (table work : List ℕ) : Type 0 where
-  pub passed : first_no file ≡ Passed
+  pub passed : first_no file ≡ Ok tt
   pub there : d < decks_in file
   pub yes19 : question19 (deck_of (decode file) d) ≡ true
   pub wide : number_size * polygon_count (deck_of (decode file) d) ≤ length table
@@ -75,8 +74,8 @@ pub record DeckLabelled (file : List ℕ) (d at : ℕ) (table table' work work' 
 
 -- of all
 pub record LabelsReady (file table work : List ℕ) : Type 0 where
-  pub passed : first_no file ≡ Passed
-  pub yes19 : labels_check (decode file) ≡ Passed
+  pub passed : first_no file ≡ Ok tt
+  pub yes19 : labels_check (decode file) ≡ Ok tt
   pub table_long : length table ≡ count_size * sheet_length (decode file)
   pub wide : loads_work file ≤ length work
 
@@ -86,7 +85,7 @@ pub record LabelsLeft (file table table' work work' : List ℕ) : Type 0 where
 
 -- ---- what counting a seat needs
 pub record PlacedReady (file : List ℕ) (d k total : ℕ) (table work : List ℕ) : Type 0 where
-  pub passed : first_no file ≡ Passed
+  pub passed : first_no file ≡ Ok tt
   pub deck_there : d < length (decode file).decks
   pub polygon_there : k < polygon_count (deck_of (decode file) d)
   pub total_is : total ≡ polygon_total (decode file)
@@ -95,7 +94,7 @@ pub record PlacedReady (file : List ℕ) (d k total : ℕ) (table work : List �
   pub labels : LabelsIn (decode file) work
 
 pub record CountReady (file : List ℕ) (polygon total : ℕ) (table work : List ℕ) : Type 0 where
-  pub passed : first_no file ≡ Passed
+  pub passed : first_no file ≡ Ok tt
   pub aboard : Aboard (decode file) polygon
   pub total_is : total ≡ polygon_total (decode file)
   pub total_few : total < 2 ^ 32
@@ -105,7 +104,7 @@ pub record CountReady (file : List ℕ) (polygon total : ℕ) (table work : List
 -- ---- all seats
 pub record CountsReady (file blocked : List ℕ) (directions : List ℤ) (seats out table work : List ℕ) : Type 0 where
   pub records_ready : RecordsReady file blocked directions seats out
-  pub yes19 : labels_check (decode file) ≡ Passed
+  pub yes19 : labels_check (decode file) ≡ Ok tt
   pub none : table ≡ counts_of (sheet_of (ship_labels (decode file)) [])
   pub labels : LabelsIn (decode file) work
 
@@ -115,7 +114,7 @@ pub record CountsPut (file blocked seats out out' table' : List ℕ) : Type 0 wh
 
 -- ---- labels, records and counts, in a table as long as the sheet
 pub record SheetReady (file blocked seats out table work : List ℕ) : Type 0 where
-  pub passed : loads_check file blocked seats ≡ Passed
+  pub passed : loads_check file blocked seats ≡ Ok tt
   pub room : record_size * seat_count seats ≤ length out
   pub table_long : length table ≡ count_size * sheet_length (decode file)
   pub wide : loads_work file ≤ length work
@@ -126,7 +125,7 @@ pub record SheetPut (file blocked seats out out' table' work work' : List ℕ) :
 
 -- ---- the same at the front of the table that is lent
 pub record TableReady (file blocked seats out table work : List ℕ) : Type 0 where
-  pub passed : loads_check file blocked seats ≡ Passed
+  pub passed : loads_check file blocked seats ≡ Ok tt
   pub room : record_size * seat_count seats ≤ length out
   pub table_room : count_size * sheet_length (decode file) ≤ length table
   pub wide : loads_work file ≤ length work

@@ -1,11 +1,9 @@
 -- Document 02, point 4: the run that is lent a table: its questions, what it writes and where.
-use Rattle.std.specs.Prelude.{ℕ, ◌*◌, List, ℤ, length}
+use Rattle.std.specs.Prelude.{ℕ, ◌*◌, List, ℤ, length, Ok}
 use Rattle.words.specs.Bytes.{counts_of}
-use Rattle.answers.specs.declared.Check.{Check}
-use Rattle.answers.specs.declared.Check.TheVariants.{Passed}
-use Rattle.answers.specs.declared.Answer.{Answer}
-use Rattle.answers.specs.Checks.{ask, after, check_each}
-use Rattle.answers.specs.Replies.{Reply, reply_of, with_table, table_to, answer_to, output_to, Tabled, TabledCode}
+use Rattle.answers.specs.Checks.{ask, after, check_each, Check}
+use Rattle.answers.specs.Replies.{Reply, reply_of, with_table, table_to, answer_to, output_to, Tabled, TabledCode, Answer}
+use Rattle.answers.specs.declared.Refusal.TheVariants.{NoSuchNeighbour}
 use Rattle.records.specs.Record.{record_bytes}
 use Rattle.ship.specs.Model.{Ship, deck_of, polygon_total}
 use Rattle.ship.specs.Decode.{decode}
@@ -21,7 +19,7 @@ count_size = 8
 
 -- '19 .. put to each deck in rising order'
 unfoldable pub labels_check : Ship → Check
-labels_check ship = check_each (λ d. ask (question19 (deck_of ship d)) 19 Passed) 0 (length ship.decks)
+labels_check ship = check_each (λ d. ask (question19 (deck_of ship d)) NoSuchNeighbour (Ok tt)) 0 (length ship.decks)
 
 -- the questions before 20: those of the run, then 19
 unfoldable pub loads_check : List ℕ → List ℕ → List ℕ → Check

@@ -1,15 +1,14 @@
 -- What the counts of a load sheet add up to (document 02, point 4), of the bytes that a run leaves.
-use Rattle.std.specs.Prelude.{ℕ, ◌+◌, ◌*◌, ◌<◌, ◌≡◌, List, length, take, get_or}
+use Rattle.std.specs.Prelude.{ℕ, ◌+◌, ◌*◌, ◌<◌, ◌≡◌, List, length, take, get_or, Ok, Err}
 use Rattle.words.specs.Bytes.{counts_of, count_at}
 use Rattle.words.specs.Rows.{sum_all}
-use Rattle.answers.specs.declared.Answer.{Answer}
-use Rattle.answers.specs.declared.Answer.TheVariants.{Refused, Wrote}
 use Rattle.records.specs.Record.{records_in}
 use Rattle.ship.specs.Model.{Ship, deck_of}
 use Rattle.ship.specs.Decode.{decode}
 use Rattle.islands.specs.Islands.{polygon_count, deck_labels}
 use Rattle.loads.specs.Sheet.{ship_labels, from_back, polygon_entry, island_entry, deck_entry, unplaced_entry, sheet_length}
 use Rattle.loads.specs.Loads.{Lent, count_size, loads_answer}
+use Rattle.answers.specs.Replies.{Answer}
 
 pub record Totals (ship : Ship) (n : ℕ) (table : List ℕ) : Type 0 where
   -- 'adding by polygon and then by deck': the polygons' counts of a deck give its count, and so do the islands'
@@ -26,8 +25,8 @@ pub record Totals (ship : Ship) (n : ℕ) (table : List ℕ) : Type 0 where
 
 -- What holds of a run on these bytes that answered so and left these records and this table. A refused run says nothing of seats.
 abbrev pub Totalled : List ℕ → Answer → List ℕ → List ℕ → Type 0
-Totalled file (Refused number) out table = Unit {0}
-Totalled file (Wrote n) out table =
+Totalled file (Err number) out table = Unit {0}
+Totalled file (Ok n) out table =
     Totals (decode file) n table
     × (take (count_size * sheet_length (decode file)) table ≡ counts_of (from_back (ship_labels (decode file)) (records_in out n)))
 

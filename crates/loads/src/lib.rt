@@ -3,7 +3,10 @@
 
 ghost use Rattle.std.specs.Prelude.{◌≡◌, ◌+◌, ◌*◌, ◌^◌, ◌≤◌, ◌<◌, length};
 ghost use Rattle.words.specs.Bytes.{count_at};
-ghost use Rattle.answers.specs.declared.Check.TheVariants.{Passed};
+ghost use Rattle.words.specs.Rows.{every};
+ghost use Rattle.ship.specs.Layout.{decks_in};
+ghost use Rattle.ship.specs.Model.{deck_of};
+ghost use Rattle.islands.specs.Islands.{question19};
 ghost use Rattle.ship.specs.Decode.{decode};
 ghost use Rattle.keeping.specs.Lists.{ListsRoom};
 ghost use Rattle.ship.specs.Questions.{first_no};
@@ -17,7 +20,8 @@ ghost use Rattle.loads.specs.Counting.{DeckReady, DeckLabelled, LabelsReady, Lab
 ghost use Rattle.loads.specs.Counting.{one_more, ThreeReady, counted_at, PlacedReady, seat_counted, CountReady};
 ghost use Rattle.loads.specs.Counting.{CountsReady, CountsPut, SheetReady, SheetPut, rooms_fit, TableReady, TablePut};
 
-use answers::{Answer, Check};
+use answers::{Answer, Check, Refusal};
+use decks::Deck;
 use keeping::{KEPT_SIZE, NEAR_SIZE};
 use records::RECORD_SIZE;
 use seat_run::SEAT_SIZE;
@@ -25,31 +29,31 @@ use ship::NUMBER_SIZE;
 
 pub const COUNT_SIZE: usize = 8;
 
-// Question 19 of each deck, in rising order.
+// Question 19 of all decks.
+#[tactic(auto, unfolding(words::specs::Rows::every))]
+fn entries_inside(file: &[u8]) -> bool
+    requires { first_no file.now ≡ Ok tt }
+    ensures { result ≡ every (λ d. question19 (deck_of (decode file.now) d)) 0 (decks_in file.now) }
+{
+    (0..decks::deck_count(file)).all(|d| islands::entries_inside(&Deck::of(file, d)))
+}
+
+// Put to each deck in rising order. All would refuse alike.
 fn labels_check(file: &[u8]) -> Check
-    requires { first_no file.now ≡ Passed }
+    requires { first_no file.now ≡ Ok tt }
     ensures { result ≡ labels_check (decode file.now) }
 {
-    let decks = decks::deck_count(file);
-    let mut d: usize = 0;
-    'decks: while d < decks {
-        let b = decks::deck_blocks(file, d);
-        if !islands::entries_inside(file, b) {
-            return Check::No(19);
-        }
-        d += 1;
+    if !entries_inside(file) {
+        return Err(Refusal::NoSuchNeighbour);
     }
-    Check::Passed
+    Ok(())
 }
 
 // Questions 1 to 19.
 fn loads_check(file: &[u8], blocked: &[u8], seats: &[u8]) -> Check
     ensures { result ≡ loads_check file.now blocked.now seats.now }
 {
-    match seat_run::run_check(file, blocked, seats) {
-        Check::No(number) => return Check::No(number),
-        Check::Passed => {}
-    }
+    seat_run::run_check(file, blocked, seats)?;
     labels_check(file)
 }
 
@@ -59,9 +63,9 @@ fn label_deck(file: &[u8], d: usize, at: usize, table: &mut [u8], work: &mut [u8
     ensures { DeckLabelled file.now d at table.old table.new
         work.old work.new result }
 {
-    let b = decks::deck_blocks(file, d);
-    islands::label_all(file, b, &mut work[at..], table);
-    at + NUMBER_SIZE * b.polygons
+    let deck = Deck::of(file, d);
+    islands::label_all(&deck, &mut work[at..], table);
+    at + NUMBER_SIZE * deck.polygon_count()
 }
 
 // The labels of all decks' polygons, decks rising. The table's counts are still to come, and it is all zeros afterwards.
@@ -72,10 +76,8 @@ fn put_labels(file: &[u8], table: &mut [u8], work: &mut [u8])
     words::clear(table);
     let decks = decks::deck_count(file);
     let mut at: usize = 0;
-    let mut d: usize = 0;
-    'decks: while d < decks {
+    'decks: for d in 0..decks {
         at = label_deck(file, d, at, table, work);
-        d += 1;
     }
 }
 
@@ -88,7 +90,7 @@ fn add_one(table: &mut [u8], k: usize)
     words::put_u64(table, COUNT_SIZE * k, count + 1)
 }
 
-// One more at three places.
+// One more at three places. A loop over an array of them would be no plainer.
 fn add_three(table: &mut [u8], a: usize, b: usize, c: usize)
     requires { ThreeReady table.old a b c }
     ensures { table.new ≡ one_more (one_more (one_more table.old a) b) c }
@@ -116,7 +118,7 @@ fn count_seat(file: &[u8], polygon: u32, total: usize, table: &mut [u8], work: &
     requires { CountReady file.now polygon total table.old work.now }
     ensures { table.new ≡ seat_counted (decode file.now) polygon table.old }
 {
-    if polygon == 0xFFFF_FFFF {
+    if polygon == words::ALL_ONES {
         add_one(table, 2 * total + decks::deck_count(file));
     } else {
         let d = decks::packed_deck(polygon);
@@ -144,10 +146,7 @@ fn put_counts(
 {
     let total = decks::polygon_total(file);
     let count = seats.len() / SEAT_SIZE;
-    let mut i: usize = 0;
-    'seats: while i < count {
-        let seat = i;
-        i += 1;
+    'seats: for seat in 0..count {
         let record = seat_run::put_seat(file, blocked, directions, seats, seat, out, kept, near);
         count_seat(file, record.polygon, total, table, work);
     }
@@ -186,7 +185,7 @@ fn put_sheet(
 
 // How many counts the sheet has.
 fn sheet_length(file: &[u8]) -> usize
-    requires { first_no file.now ≡ Passed }
+    requires { first_no file.now ≡ Ok tt }
     ensures { (result ≡ sheet_length (decode file.now)) × (result < 2 ^ 34) }
 {
     let decks = decks::deck_count(file);
@@ -194,17 +193,14 @@ fn sheet_length(file: &[u8]) -> usize
 }
 
 // Question 20 of the output, the table and the work.
+#[tactic(auto, unfolding(crate::specs::Counting::rooms_fit))]
 fn rooms_fit(file: &[u8], seats: usize, out: usize, table: usize, work: usize) -> bool
-    requires { first_no file.now ≡ Passed }
+    requires { first_no file.now ≡ Ok tt }
     ensures { result ≡ rooms_fit (decode file.now) seats out table work }
 {
-    if !answers::room_for(RECORD_SIZE, seats, out) {
-        return false;
-    }
-    if !answers::room_for(COUNT_SIZE, sheet_length(file), table) {
-        return false;
-    }
-    answers::room_for(COUNT_SIZE, decks::polygon_total(file), work)
+    answers::room_for(RECORD_SIZE, seats, out)
+        && answers::room_for(COUNT_SIZE, sheet_length(file), table)
+        && answers::room_for(COUNT_SIZE, decks::polygon_total(file), work)
 }
 
 // The sheet at the front of the table.
@@ -241,14 +237,11 @@ pub fn run_loads(
     ensures portioned { Portioned file.now blocked.now seats.now result
         out.new table.new }
 {
-    match loads_check(file, blocked, seats) {
-        Check::No(number) => return Answer::Refused(number),
-        Check::Passed => {}
-    }
+    loads_check(file, blocked, seats)?;
     let count = seats.len() / SEAT_SIZE;
     if !rooms_fit(file, count, out.len(), table.len(), work.len()) {
-        return Answer::Refused(20);
+        return Err(Refusal::NoRoom);
     }
     put_table(file, blocked, seats, out, table, work);
-    Answer::Wrote(count)
+    Ok(count)
 }

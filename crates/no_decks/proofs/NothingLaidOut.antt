@@ -10,10 +10,11 @@ use Rattle.geometry.specs.declared.Vec2.{Vec2}
 use Rattle.geometry.specs.declared.Height.TheVariants.{None}
 use Rattle.words.specs.Bytes.{all_ones, joined, counts_of}
 use Rattle.words.specs.Rows.{rows, collect, collect_all, sum_of, count_of}
-use Rattle.answers.specs.declared.Check.TheVariants.{Passed, No}
 use Rattle.answers.specs.Questions.{question17}
 use Rattle.answers.specs.Checks.{ask, check_each}
 use Rattle.answers.proofs.Asking.{below_none, none_there, after_passed}
+use Rattle.std.specs.Prelude.{Ok, Err}
+use Rattle.answers.specs.declared.Refusal.TheVariants.{CallFloatOutOfRange, NoSuchDeck, NoSuchPolygon, NoDirection}
 use Rattle.records.specs.declared.SeatRecord.{SeatRecord}
 use Rattle.records.specs.Record.{is_unplaced, unplaced_record}
 use Rattle.ship.specs.Layout.{header_size, decks_in, steps_in}
@@ -56,7 +57,7 @@ unplaced_all f h zero i = refl
 unplaced_all f h (suc n) i = rw (h i) (ap suc (unplaced_all f h n (i + 1)))
 
 -- 18 is not asked where 17 says no, and passes where nothing is named
-asked_17 : (named there : Bool) → ask (named || false) 17 (ask (named || there) 18 Passed) ≡ ask named 17 Passed
+asked_17 : (named there : Bool) → ask (named || false) NoSuchDeck (ask (named || there) NoSuchPolygon (Ok tt)) ≡ ask named NoSuchDeck (Ok tt)
 asked_17 true there = refl
 asked_17 false there = refl
 
@@ -64,14 +65,14 @@ same_both : {A : Type 0} (b : Bool) (x : A) → cond b x x ≡ x
 same_both true x = refl
 same_both false x = refl
 
-module _ (file : List ℕ) (none : decks_in file ≡ 0) (passed : first_no file ≡ Passed) where
+module _ (file : List ℕ) (none : decks_in file ≡ 0) (passed : first_no file ≡ Ok tt) where
   -- ---- the closest points
   found_none : (p : Vec2) (deck : ℕ) (blocked : List ℕ) → closest_points file p deck blocked ≡ []
   unfolding closest_points
   found_none p deck blocked =
       ap found_in (found_nowhere (seen_by file blocked (asked_at p deck)) (λ d l. absurd (no_deck_below file none l)) 0 (steps_in file))
 
-  query_asked : (p : Vec2) (deck : ℕ) (blocked : List ℕ) → query_check file p deck blocked ≡ asked p blocked (names_none deck Passed)
+  query_asked : (p : Vec2) (deck : ℕ) (blocked : List ℕ) → query_check file p deck blocked ≡ asked p blocked (names_none deck (Ok tt))
   unfolding query_check
   query_asked p deck blocked = rw (passed, none, none_there deck)
 
@@ -86,12 +87,12 @@ module _ (file : List ℕ) (none : decks_in file ≡ 0) (passed : first_no file 
       rw (collect_nothing (step_gives (decode file) p direction deck) (step_none p direction deck) (decode file).steps 0)
 
   towards_asked : (p towards : Vec2) (deck : ℕ)
-      → towards_check file p towards deck ≡ ask (question16 p) 16 (ask (question16 towards) 16 (names_none deck (ask (question22 p towards) 22 Passed)))
+      → towards_check file p towards deck ≡ ask (question16 p) CallFloatOutOfRange (ask (question16 towards) CallFloatOutOfRange (names_none deck (ask (question22 p towards) NoDirection (Ok tt))))
   unfolding towards_check
   towards_asked p towards deck = rw (passed, none, none_there deck)
 
   -- ---- the height
-  height_asked : (p : Vec2) (polygon : ℕ) → height_check file p polygon ≡ ask (question16 p) 16 (names_none polygon Passed)
+  height_asked : (p : Vec2) (polygon : ℕ) → height_check file p polygon ≡ ask (question16 p) CallFloatOutOfRange (names_none polygon (Ok tt))
   unfolding height_check question17_height question18
   height_asked p polygon = rw (passed, none, below_none (packed_deck polygon), asked_17 (eqb polygon all_ones) _)
 
@@ -100,11 +101,11 @@ module _ (file : List ℕ) (none : decks_in file ≡ 0) (passed : first_no file 
   height_none p polygon = rw (no_decks file none) (same_both (eqb polygon all_ones) None)
 
   -- ---- section 8
-  point_asked : (p : Vec2) → point_check file p ≡ ask (question16 p) 16 Passed
+  point_asked : (p : Vec2) → point_check file p ≡ ask (question16 p) CallFloatOutOfRange (Ok tt)
   unfolding point_check
   point_asked p = rw passed
 
-  candidates_asked : (p : Vec2) (blocked : List ℕ) → candidate_check file p blocked ≡ asked p blocked Passed
+  candidates_asked : (p : Vec2) (blocked : List ℕ) → candidate_check file p blocked ≡ asked p blocked (Ok tt)
   unfolding candidate_check
   candidates_asked p blocked = rw passed
 
@@ -120,7 +121,7 @@ module _ (file : List ℕ) (none : decks_in file ≡ 0) (passed : first_no file 
   unfolding candidate_polygons merged collect
   merged_none p deck polygon blocked = rw (polygons_none p deck blocked)
 
-  islands_17 : (deck : ℕ) → islands_check file deck ≡ No 17
+  islands_17 : (deck : ℕ) → islands_check file deck ≡ Err NoSuchDeck
   unfolding islands_check question17_islands
   islands_17 deck = rw (passed, none, below_none deck)
 

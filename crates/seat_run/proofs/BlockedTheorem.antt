@@ -3,8 +3,7 @@ use Prim.Native.Nat.{ℕ, ◌<◌}
 use mathlib.Core.Path.{◌≡◌, ap, ◌∙◌}
 use mathlib.Core.Bool.{false}
 use mathlib.Core.List.{List}
-use Rattle.answers.specs.declared.Answer.{Answer}
-use Rattle.answers.specs.Replies.{answer_to, output_to, Replied}
+use Rattle.answers.specs.Replies.{answer_to, output_to, Replied, Answer}
 use Rattle.records.specs.Record.{record_bytes}
 use Rattle.records.proofs.ReadBack.{untried}
 use Rattle.ship.specs.Decode.{decode}

@@ -10,11 +10,11 @@ use Rattle.geometry.specs.Heights.{height_along, sum_from, height_from, mean_hei
 use Rattle.ring.specs.Table.{directions}
 use Rattle.words.specs.Bytes.{u32_at, bytes4, joined}
 use Rattle.words.specs.Rows.{rows, every, collect, sum_of}
-use Rattle.answers.specs.declared.Answer.TheVariants.{Refused, Wrote}
-use Rattle.answers.specs.declared.Check.TheVariants.{Passed, No}
 use Rattle.answers.specs.Checks.{check_each}
 use Rattle.answers.specs.Questions.{question14, question17, question20}
 use Rattle.answers.specs.Replies.{reply_check, answer_to}
+use Rattle.std.specs.Prelude.{Ok, Err}
+use Rattle.answers.specs.declared.Refusal.TheVariants.{HeaderCut, BlocksNotEndToEnd, NoSuchDeck, NoRoom}
 use Rattle.records.specs.declared.SeatRecord.{SeatRecord}
 use Rattle.records.specs.Record.{record_bytes}
 use Rattle.hits.specs.Hits.{polygon_hit, sample_hit}
@@ -90,11 +90,11 @@ deck_1_blocked = 2 ∷ replicate 31 0
 abbrev numbers : ℕ → ℕ → ℕ → ℕ → ℕ → ℕ → ℕ → ℕ → ℕ → SeatRecord
 numbers p x y k h s i t c = record { polygon = p; x = x; y = y; kind = k; height = h; step = s; sample = i; tried = t; candidates = c }
 
-files_pass : (first_no file ≡ Passed) × (first_no two_decks ≡ Passed)
+files_pass : (first_no file ≡ Ok tt) × (first_no two_decks ≡ Ok tt)
 unfolding file two_decks check_each end_to_end every question1 question2 question3 question4 question5 question6 question7 question8 question9 question10 question11 question12 question13 header_check blocks_check deck_check first_no u32_at blocks_at size_at_most reach_allowed of_bits le
 files_pass = (refl, refl)
 
-runs_pass : (run_check file nothing_blocked seats ≡ Passed) × (run_check two_decks nothing_blocked wishing ≡ Passed)
+runs_pass : (run_check file nothing_blocked seats ≡ Ok tt) × (run_check two_decks nothing_blocked wishing ≡ Ok tt)
 unfolding file seats two_decks wishing nothing_blocked question14 question14_seats kind_allowed question16_seat question17 seat_check run_check check_each end_to_end every question1 question2 question3 question4 question5 question6 question7 question8 question9 question10 question11 question12 question13 header_check blocks_check deck_check first_no u32_at blocks_at size_at_most reach_allowed of_bits le
 runs_pass = (refl, refl)
 
@@ -121,16 +121,16 @@ unfolding two_decks naming deck_1_blocked seat_run seat_at rows u32_at blocks_at
 blocked_comes_first = refl
 
 -- 36 bytes a seat are room enough, and a byte less is not
-room : (answer_to (run_reply file nothing_blocked seats) (replicate 108 0) ≡ Wrote 3) × (answer_to (run_reply file nothing_blocked seats) (replicate 107 0) ≡ Refused 20)
+room : (answer_to (run_reply file nothing_blocked seats) (replicate 108 0) ≡ Ok 3) × (answer_to (run_reply file nothing_blocked seats) (replicate 107 0) ≡ Err NoRoom)
 unfolding answer_to reply_check question20 joined record_bytes bytes4 file seats nothing_blocked seat_run seat_at rows u32_at blocks_at deck_at decode point_of corners_of height_of polygon_points polygon_corners is_blocked is_open nearer polygon_hit sample_hit collect sum_of turn tried_before best_of first_step seat_record choice_of sample_on place_of shown_from passes_at height_on directions side_of in_range in_bounding_box on_segment edge_test_of edges_from point_in_polygon height_along sum_from height_from mean_height height_in of_int of_bits div add sub mul lt le eq round sum neg units odd size climb span of_fields to_bits question14 question14_seats kind_allowed question16_seat question17 seat_check run_check check_each end_to_end every question1 question2 question3 question4 question5 question6 question7 question8 question9 question10 question11 question12 question13 header_check blocks_check deck_check first_no size_at_most reach_allowed
 room = (refl, refl)
 
 -- document 02, point 5: 12 bytes pass, 11 and 13 do not; no seat is placed, nothing is tried, and a deck that is named is not there
-hull_asked : (first_no hull ≡ Passed) × ((first_no (take 11 hull) ≡ No 1) × (first_no (hull ++ 0 ∷ []) ≡ No 6))
+hull_asked : (first_no hull ≡ Ok tt) × ((first_no (take 11 hull) ≡ Err HeaderCut) × (first_no (hull ++ 0 ∷ []) ≡ Err BlocksNotEndToEnd))
 unfolding hull check_each end_to_end question1 question2 question3 question4 question5 question6 header_check first_no u32_at size_at_most reach_allowed of_bits le
 hull_asked = (refl, (refl, refl))
 
-hull_run : (run_check hull nothing_blocked seats ≡ Passed) × (run_check hull nothing_blocked naming ≡ No 17)
+hull_run : (run_check hull nothing_blocked seats ≡ Ok tt) × (run_check hull nothing_blocked naming ≡ Err NoSuchDeck)
 unfolding hull seats naming nothing_blocked question14 question14_seats kind_allowed question16_seat question17 seat_check run_check check_each end_to_end question1 question2 question3 question4 question5 question6 header_check first_no u32_at size_at_most reach_allowed of_bits le
 hull_run = (refl, refl)
 

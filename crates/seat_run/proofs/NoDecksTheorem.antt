@@ -5,8 +5,7 @@ use mathlib.Core.List.{List, ◌++◌}
 use lib.IntN.{ℤ}
 use Rattle.words.specs.Bytes.{joined}
 use Rattle.words.specs.Rows.{rows, collect, collect_all}
-use Rattle.answers.specs.declared.Answer.{Answer}
-use Rattle.answers.specs.Replies.{Reply, Replied, code_of}
+use Rattle.answers.specs.Replies.{Reply, Replied, code_of, Answer}
 use Rattle.answers.proofs.Asking.{none_there, each_same}
 use Rattle.answers.proofs.Replying.{replied_code}
 use Rattle.records.specs.declared.SeatRecord.{SeatRecord}

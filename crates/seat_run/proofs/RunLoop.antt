@@ -10,13 +10,13 @@ use Rattle.geometry.specs.Bounds.{PointWithin}
 use Rattle.ring.specs.Table.{directions}
 use Rattle.words.specs.Bytes.{splice}
 use Rattle.words.proofs.Writing.{Rest, rest_all, rest_more_front, rest_front}
-use Rattle.answers.specs.declared.Answer.TheVariants.{Refused, Wrote}
-use Rattle.answers.specs.declared.Check.{Check}
-use Rattle.answers.specs.declared.Check.TheVariants.{Passed}
 use Rattle.answers.specs.Questions.{question20}
 use Rattle.answers.specs.Replies.{Replied}
 use Rattle.answers.proofs.Asking.{said_yes, q20_fits}
 use Rattle.answers.proofs.Replying.{replied_refused, replied_short, replied_written, room_short, room_fits}
+use Rattle.answers.specs.Checks.{Check}
+use Rattle.std.specs.Prelude.{Ok, Err}
+use Rattle.answers.specs.declared.Refusal.TheVariants.{NoRoom}
 use Rattle.records.specs.declared.SeatRecord.{SeatRecord}
 use Rattle.records.specs.Record.{record_size, record_bytes}
 use Rattle.records.proofs.ReadBack.{no_record, record_length}
@@ -97,9 +97,9 @@ recording_ready t = t.ready
 pub ruleset recording = (recording_all, recording_none, recording_there, recording_more, recording_long, recording_ready)
 
 -- ---- `run`
-module _ (file blocked seats : List ℕ) {r : Check} (asked : r ≡ run_check file blocked seats) (passed : r ≡ Passed) (out : List ℕ) {fits : Bool}
+module _ (file blocked seats : List ℕ) {r : Check} (asked : r ≡ run_check file blocked seats) (passed : r ≡ Ok tt) (out : List ℕ) {fits : Bool}
     (room : fits ≡ question20 (record_size * seat_count seats) (length out)) where
-  pub run_refused : not fits ≡ true → Replied (run_reply file blocked seats) out out (Refused 20)
+  pub run_refused : not fits ≡ true → Replied (run_reply file blocked seats) out out (Err NoRoom)
   run_refused no_room = replied_short asked passed (room_short (run_reply file blocked seats) out record_size (seat_count seats) (reply_long file blocked seats) room no_room)
 
   module _ (has_room : not fits ≡ false) where
@@ -107,15 +107,15 @@ module _ (file blocked seats : List ℕ) {r : Check} (asked : r ≡ run_check fi
     run_ready d =
         record { passed = sym asked ∙ passed; table_is = d; room = q20_fits (record_size * seat_count seats) (length out) (said_yes room has_room) }
 
-    pub run_replied : {out' : List ℕ} → RecordsPut file blocked seats out out' → Replied (run_reply file blocked seats) out out' (Wrote (seat_count seats))
+    pub run_replied : {out' : List ℕ} → RecordsPut file blocked seats out out' → Replied (run_reply file blocked seats) out out' (Ok (seat_count seats))
     run_replied w =
         replied_written asked passed (room_fits (run_reply file blocked seats) out record_size (seat_count seats) (reply_long file blocked seats) room has_room)
         (sym (run_length (decode file) blocked seats)) (w ∙ rw (reply_long file blocked seats))
 
-    pub run_surveyed : {out' : List ℕ} → RecordsPut file blocked seats out out' → Surveyed file blocked seats (Wrote (seat_count seats)) out'
+    pub run_surveyed : {out' : List ℕ} → RecordsPut file blocked seats out out' → Surveyed file blocked seats (Ok (seat_count seats)) out'
     run_surveyed w = surveyed file blocked seats out (run_replied w)
 
-    pub run_unsearched : {out' : List ℕ} → RecordsPut file blocked seats out out' → BlockedUnplaced file blocked seats (Wrote (seat_count seats)) out'
+    pub run_unsearched : {out' : List ℕ} → RecordsPut file blocked seats out out' → BlockedUnplaced file blocked seats (Ok (seat_count seats)) out'
     run_unsearched w = blocked_unplaced file blocked seats out (run_replied w)
 
 pub ruleset running = (replied_refused, run_refused, run_ready, run_replied, run_surveyed, run_unsearched, no_decks_replied)

@@ -6,11 +6,10 @@ use mathlib.Core.List.{List, ◌++◌}
 use lib.ListN.{length, get_or, drop}
 use Rattle.words.specs.Rows.{rows}
 use Rattle.words.proofs.TableRows.{length_rows, get_d_rows, map_rows}
-use Rattle.answers.specs.declared.Answer.{Answer}
-use Rattle.answers.specs.declared.Answer.TheVariants.{Refused, Wrote}
-use Rattle.answers.specs.declared.Check.TheVariants.{Passed}
-use Rattle.answers.specs.Replies.{reply_check, answer_to, output_to}
+use Rattle.answers.specs.Replies.{reply_check, answer_to, output_to, Answer}
 use Rattle.answers.proofs.Replying.{of_reply, passed_check, output_passed}
+use Rattle.std.specs.Prelude.{Ok, Err}
+use Rattle.answers.specs.declared.Refusal.{Refusal}
 use Rattle.records.specs.declared.SeatRecord.{SeatRecord}
 use Rattle.records.specs.Record.{record_size, record_bytes, records_bytes, record_at, records_in, record_slice}
 use Rattle.records.proofs.ReadBack.{no_record, records_length, slice_written, record_written, records_written}
@@ -40,13 +39,13 @@ pub reply_long : (file blocked seats : List ℕ) → length (run_reply file bloc
 reply_long file blocked seats = records_length (run_records file blocked seats) ∙ rw (run_length (decode file) blocked seats)
 
 -- ---- what holds of the answer of every run: it was refused, or it passed and wrote a record a seat
-pub of_run : (file blocked seats out : List ℕ) (P : Answer → Type 0) → ((number : ℕ) → P (Refused number))
-    → (reply_check (run_reply file blocked seats) (length out) ≡ Passed → P (Wrote (seat_count seats))) → P (answer_to (run_reply file blocked seats) out)
+pub of_run : (file blocked seats out : List ℕ) (P : Answer → Type 0) → ((number : Refusal) → P (Err number))
+    → (reply_check (run_reply file blocked seats) (length out) ≡ Ok tt → P (Ok (seat_count seats))) → P (answer_to (run_reply file blocked seats) out)
 of_run file blocked seats out P refused wrote =
-    of_reply (run_reply file blocked seats) out P refused (λ e. subst⁻¹ (λ (n : ℕ). P (Wrote n)) (run_length (decode file) blocked seats) (wrote e))
+    of_reply (run_reply file blocked seats) out P refused (λ e. subst⁻¹ (λ (n : ℕ). P (Ok n)) (run_length (decode file) blocked seats) (wrote e))
 
 -- ---- the output of a run that is not refused
-module _ (file blocked seats out : List ℕ) (passed : reply_check (run_reply file blocked seats) (length out) ≡ Passed) where
+module _ (file blocked seats out : List ℕ) (passed : reply_check (run_reply file blocked seats) (length out) ≡ Ok tt) where
   abbrev result : List ℕ
   result = output_to (run_reply file blocked seats) out
 

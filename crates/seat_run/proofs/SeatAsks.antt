@@ -9,11 +9,11 @@ use borrow.Author.Tests.{eq-eqb, ne_eqb}
 use lib.Dec.{eqb}
 use lib.ListN.{length}
 use Rattle.words.proofs.TableRows.{both}
-use Rattle.answers.specs.declared.Check.{Check}
-use Rattle.answers.specs.declared.Check.TheVariants.{Passed}
-use Rattle.answers.specs.Checks.{ask, after, check_each}
+use Rattle.answers.specs.Checks.{ask, after, check_each, Check}
 use Rattle.answers.specs.Questions.{question14, question17}
 use Rattle.answers.proofs.Asking.{asking, said_no, said_yes, asked_yes, both_passed, each_passed, checking, blocked_32}
+use Rattle.std.specs.Prelude.{Ok}
+use Rattle.answers.specs.declared.Refusal.TheVariants.{WrongLength, KindNotAllowed, CallFloatOutOfRange, NoSuchDeck}
 use Rattle.ship.specs.Layout.{decks_in}
 use Rattle.ship.specs.Questions.{first_no}
 use Rattle.seat_run.specs.SeatFile.{seat_size, seat_count, deck_word, kind_word, height_word, kind_allowed, question14_seats, question15, question16_seat, seat_check}
@@ -27,7 +27,7 @@ module _ (s : List ℕ) (i : ℕ) where
   pub deck_asked : (decks : ℕ) {deck : ℕ} {r : Bool} → deck ≡ deck_word s i → r ≡ question17 decks deck → r ≡ question17 decks (deck_word s i)
   deck_asked decks e f = rw e at f
 
-  pub seat_is : (decks : ℕ) {v : Check} → v ≡ ask (question15 s i) 15 (ask (question16_seat s i) 16 (ask (question17 decks (deck_word s i)) 17 Passed)) → v ≡ seat_check s decks i
+  pub seat_is : (decks : ℕ) {v : Check} → v ≡ ask (question15 s i) KindNotAllowed (ask (question16_seat s i) CallFloatOutOfRange (ask (question17 decks (deck_word s i)) NoSuchDeck (Ok tt))) → v ≡ seat_check s decks i
   unfolding seat_check
   seat_is decks e = e
 
@@ -60,7 +60,7 @@ pub list_asked : (file seats : List ℕ) {decks : ℕ} {r : Check} → decks ≡
 list_asked file seats e f = rw e at f
 
 pub run_is : (file blocked seats : List ℕ) {v : Check}
-    → v ≡ after (first_no file) (ask (question14_seats blocked seats) 14 (check_each (seat_check seats (decks_in file)) 0 (seat_count seats))) → v ≡ run_check file blocked seats
+    → v ≡ after (first_no file) (ask (question14_seats blocked seats) WrongLength (check_each (seat_check seats (decks_in file)) 0 (seat_count seats))) → v ≡ run_check file blocked seats
 unfolding run_check
 run_is file blocked seats e = e
 
@@ -68,19 +68,19 @@ pub ruleset run_asks = (asking, blocked_no, seats_no, seats_whole, list_asked, r
 
 -- ---- a passed run
 pub record RunPassed (file blocked seats : List ℕ) : Type 0 where
-  pub file_passed : first_no file ≡ Passed
+  pub file_passed : first_no file ≡ Ok tt
   pub yes14 : question14_seats blocked seats ≡ true
-  pub seats_passed : check_each (seat_check seats (decks_in file)) 0 (seat_count seats) ≡ Passed
+  pub seats_passed : check_each (seat_check seats (decks_in file)) 0 (seat_count seats) ≡ Ok tt
 
 module _ (file blocked seats : List ℕ) where
-  pub run_yes : run_check file blocked seats ≡ Passed → RunPassed file blocked seats
+  pub run_yes : run_check file blocked seats ≡ Ok tt → RunPassed file blocked seats
   unfolding run_check
   run_yes h =
       let a = both_passed (first_no file) _ h in
-      let b = asked_yes (question14_seats blocked seats) 14 _ a.1 in
+      let b = asked_yes (question14_seats blocked seats) WrongLength _ a.1 in
       record { file_passed = a.0; yes14 = b.0; seats_passed = b.1 }
 
-  pub run_passed : RunPassed file blocked seats → run_check file blocked seats ≡ Passed
+  pub run_passed : RunPassed file blocked seats → run_check file blocked seats ≡ Ok tt
   unfolding run_check
   run_passed y = rw (y.file_passed, y.yes14) y.seats_passed
 
@@ -92,5 +92,5 @@ module _ (file blocked seats : List ℕ) where
 pub seat_yes16 : {file blocked seats : List ℕ} → RunPassed file blocked seats → (i : ℕ) → i < seat_count seats → question16_seat seats i ≡ true
 unfolding seat_check
 seat_yes16 {file} {blocked} {seats} y i l =
-    let a = asked_yes (question15 seats i) 15 _ (each_passed (seat_check seats (decks_in file)) (seat_count seats) y.seats_passed i l) in
-    (asked_yes (question16_seat seats i) 16 _ a.1).0
+    let a = asked_yes (question15 seats i) KindNotAllowed _ (each_passed (seat_check seats (decks_in file)) (seat_count seats) y.seats_passed i l) in
+    (asked_yes (question16_seat seats i) CallFloatOutOfRange _ a.1).0

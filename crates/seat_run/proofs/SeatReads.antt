@@ -1,54 +1,20 @@
--- `kind_allowed`, `floats_in_size` and `seat_at`: from what the readers returned to what the definitions of a seat's bytes say.
+-- `seat_at`: from what the readers returned to what the definitions of a seat's bytes say.
 use Prim.Native.Nat.{ℕ}
 use mathlib.Core.Path.{◌≡◌, sym, ◌∙◌}
-use mathlib.Core.Bool.{Bool, true, false, not, or-false}
+use mathlib.Core.Bool.{true, not}
 use mathlib.Core.List.{List}
 use borrow.Author.Tests.{eq-eqb, ne_eqb}
-use lib.Dec.{T, eqb}
-use lib.Ieee.{Float, binary32, of_bits, nan_bits}
+use lib.Dec.{T}
+use lib.Ieee.{Float, binary32, nan_bits}
 use Rattle.geometry.specs.Bounds.{Within, PointWithin}
 use Rattle.words.proofs.TableRows.{both}
 use Rattle.words.proofs.Collecting.{holds}
-use Rattle.answers.proofs.Asking.{said_no, said_yes}
 use Rattle.ship.specs.Floats.{in_size}
 use Rattle.ship.proofs.FloatBits.{size_within, in_size_not_nan}
 use Rattle.survey.specs.declared.DeckChoice.{DeckChoice}
 use Rattle.survey.specs.declared.Wish.TheVariants.{NoWish, Wished}
 use Rattle.survey.specs.Wishes.{choice_of}
-use Rattle.seat_run.specs.SeatFile.{seat_word, seat_float, deck_word, kind_word, seat_at, kind_allowed, question16_seat}
-
--- ---- `kind_allowed`
-module _ (kind height : ℕ) where
-  pub kind_zero : kind ≡ 0 → eqb height 0 ≡ kind_allowed kind height
-  unfolding kind_allowed
-  kind_zero e = rw e (sym (or-false (eqb height 0)))
-
-  pub kind_other : (kind ≡ 0 → ⊥) → eqb kind 1 ≡ kind_allowed kind height
-  unfolding kind_allowed
-  kind_other n = rw (ne_eqb kind 0 n)
-
-pub ruleset kinds = (kind_zero, kind_other)
-
--- ---- `float_in_size`
-pub float_asked : (s : List ℕ) (i k : ℕ) {n : ℕ} {r : Bool} → n ≡ seat_word s i k → r ≡ in_size (of_bits binary32 n) → r ≡ in_size (seat_float s i k)
-float_asked s i k e f = rw e at f
-
--- ---- `floats_in_size`
-module _ (s : List ℕ) (i : ℕ) {r : Bool} (first : r ≡ in_size (seat_float s i 0)) where
-  pub x_no : not r ≡ true → false ≡ question16_seat s i
-  unfolding question16_seat
-  x_no e = rw (said_no first e)
-
-  module _ (x : not r ≡ false) {q : Bool} (second : q ≡ in_size (seat_float s i 1)) where
-    pub y_no : q ≡ false → q ≡ question16_seat s i
-    unfolding question16_seat
-    y_no e = e ∙ rw (said_yes first x, sym second ∙ e)
-
-    pub all_three : {t : Bool} → q ≡ true → t ≡ in_size (seat_float s i 4) → t ≡ question16_seat s i
-    unfolding question16_seat
-    all_three e third = third ∙ rw (said_yes first x, sym second ∙ e)
-
-pub ruleset sizes = (x_no, y_no, all_three)
+use Rattle.seat_run.specs.SeatFile.{seat_word, seat_float, deck_word, kind_word, seat_at, question16_seat}
 
 -- ---- `seat_at`
 pub record SeatFloats (s : List ℕ) (i : ℕ) : Type 0 where

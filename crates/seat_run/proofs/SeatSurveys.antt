@@ -1,7 +1,7 @@
 -- Every distance from a wish to a candidate's height is a number, so that the surveyor's statement holds of each seat's record, and of no other.
 use Prim.Native.Nat.{ℕ, ◌^◌, ◌<◌}
 use native.Mathlib.Omega.{arith}
-use mathlib.Core.Path.{◌≡◌, refl}
+use mathlib.Core.Path.{◌≡◌}
 use mathlib.Core.Bool.{Bool, true, false, not, cond}
 use mathlib.Core.List.{List}
 use lib.Dec.{T, eqb}
@@ -11,7 +11,6 @@ use Rattle.geometry.specs.declared.Height.TheVariants.{Known, None}
 use Rattle.geometry.specs.Bounds.{Within, PointWithin, HeightWithin}
 use Rattle.geometry.specs.Plane.{zero32}
 use Rattle.geometry.proofs.Bounds.{sub_within, neg_within, not_nan, power}
-use Rattle.answers.specs.declared.Check.TheVariants.{Passed}
 use Rattle.records.specs.declared.SeatRecord.{SeatRecord}
 use Rattle.hits.specs.declared.Candidate.{Candidate}
 use Rattle.ship.specs.Layout.{decks_in}
@@ -32,6 +31,7 @@ use Rattle.walking.specs.Sees.{seen_by, CandidateIn}
 use Rattle.walking.proofs.ShownLaws.{polygons_shown, polygons_few, candidate_within}
 use Rattle.seat_run.specs.SeatFile.{seat_float, kind_word, seat_at, question16_seat}
 use Rattle.seat_run.proofs.SeatReads.{seat_floats}
+use Rattle.std.specs.Prelude.{Ok}
 
 -- ---- the distance from a wish to a height
 abbrev pub WishWithin : ℕ → Wish → Type 0
@@ -65,7 +65,7 @@ wish_within s i h = go (eqb (kind_word s i) 0)
     go false = (seat_floats s i h).height_within
 
 -- ---- what a seat sees of a passed file
-module _ (file : List ℕ) (passed : first_no file ≡ Passed) (blocked : List ℕ) (seat : Seat) (at : PointWithin 1000000 seat.place) (wish : WishWithin 1000000 seat.wish) where
+module _ (file : List ℕ) (passed : first_no file ≡ Ok tt) (blocked : List ℕ) (seat : Seat) (at : PointWithin 1000000 seat.place) (wish : WishWithin 1000000 seat.wish) where
   candidate_in : (s : ℕ) → s < (decode file).steps → (c : Candidate) → IsCandidate (seen_by file blocked seat) s c → CandidateIn file c
   candidate_in s l c h =
       let there : c.deck < decks_in file = omega (arith, h.on_open.0, decks_length file) in
@@ -73,7 +73,7 @@ module _ (file : List ℕ) (passed : first_no file ≡ Passed) (blocked : List �
       record {
         turn = record { deck = there; step = omega (arith, steps_in_lem file) };
         sample = omega (arith, h.first_hit.in_ring);
-        polygon = omega (arith, h.passes.0, polygons_shown file there refl seat.place);
+        polygon = omega (arith, h.passes.0, polygons_shown file c.deck seat.place);
       }
 
   measured : MeasuredBelow (seen_by file blocked seat) (decode file).steps

@@ -5,11 +5,9 @@ use mathlib.Core.Path.{◌≡◌, refl, sym, ap, ap₂, ◌∙◌}
 use mathlib.Core.List.{List, [], ◌∷◌}
 use lib.ListN.{length}
 use Rattle.words.specs.Rows.{rows}
-use Rattle.answers.specs.declared.Answer.{Answer}
-use Rattle.answers.specs.declared.Answer.TheVariants.{Wrote}
-use Rattle.answers.specs.declared.Check.TheVariants.{Passed}
-use Rattle.answers.specs.Replies.{reply_check, answer_to, output_to, Replied}
+use Rattle.answers.specs.Replies.{reply_check, answer_to, output_to, Replied, Answer}
 use Rattle.answers.proofs.Replying.{check_passed, passed_check, answer_passed, output_length}
+use Rattle.std.specs.Prelude.{Ok}
 use Rattle.records.specs.declared.SeatRecord.{SeatRecord}
 use Rattle.records.specs.Record.{record_bytes}
 use Rattle.ship.specs.Layout.{steps_in}
@@ -81,15 +79,15 @@ view_steps : (ship : Ship) (n : ℕ) (blocked : List ℕ) (seat : Seat) → view
 unfolding shown_from place_of sample_on
 view_steps ship n blocked seat = refl
 
-module _ (file blocked seats out : List ℕ) (passed : reply_check (run_reply file blocked seats) (length out) ≡ Passed) (S : ℕ) (more : steps_in file ≤ S) (most : S ≤ 16)
+module _ (file blocked seats out : List ℕ) (passed : reply_check (run_reply file blocked seats) (length out) ≡ Ok tt) (S : ℕ) (more : steps_in file ≤ S) (most : S ≤ 16)
     (out' : List ℕ) (room' : length out ≤ length out') where
   asked : RunPassed file blocked seats
   asked = run_yes file blocked seats (passed_check (run_reply file blocked seats) (length out) passed).0
 
-  raised_file : (first_no (with_steps_bytes file S) ≡ Passed) × (decode (with_steps_bytes file S) ≡ with_steps (decode file) S)
+  raised_file : (first_no (with_steps_bytes file S) ≡ Ok tt) × (decode (with_steps_bytes file S) ≡ with_steps (decode file) S)
   raised_file = raised file S asked.file_passed (omega (arith, (steps_range file asked.file_passed).0)) most
 
-  raised_run : reply_check (run_reply (with_steps_bytes file S) blocked seats) (length out') ≡ Passed
+  raised_run : reply_check (run_reply (with_steps_bytes file S) blocked seats) (length out') ≡ Ok tt
   raised_run =
       check_passed (run_reply (with_steps_bytes file S) blocked seats) (length out')
       (run_passed (with_steps_bytes file S) blocked seats (record { file_passed = raised_file.0; yes14 = asked.yes14; seats_passed = rw (raised_decks file S asked.file_passed) asked.seats_passed }))
@@ -107,7 +105,7 @@ module _ (file blocked seats out : List ℕ) (passed : reply_check (run_reply fi
       (raised_record i ∙ steady v (decode file).steps S (omega (arith, steps_in_lem file)) (λ e. placed (ap (λ (r : SeatRecord). r.polygon) here ∙ e)))
       ∙ sym (result_slice file blocked seats out passed i h)
 
-  counted : answer_to (run_reply (with_steps_bytes file S) blocked seats) out' ≡ Wrote (seat_count seats)
+  counted : answer_to (run_reply (with_steps_bytes file S) blocked seats) out' ≡ Ok (seat_count seats)
   counted = answer_passed (run_reply (with_steps_bytes file S) blocked seats) out' raised_run ∙ rw (run_length (decode (with_steps_bytes file S)) blocked seats)
 
 -- ---- the theorem

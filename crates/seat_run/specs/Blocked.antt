@@ -1,9 +1,7 @@
 -- Document 02, point 1, of bytes: a seat that names a blocked deck is unplaced, and no sample was tried for it.
-use Rattle.std.specs.Prelude.{ℕ, ◌<◌, ◌≡◌, true, List}
+use Rattle.std.specs.Prelude.{ℕ, ◌<◌, ◌≡◌, true, List, Ok, Err}
 use Rattle.words.specs.Bytes.{all_ones}
-use Rattle.answers.specs.declared.Answer.{Answer}
-use Rattle.answers.specs.declared.Answer.TheVariants.{Refused, Wrote}
-use Rattle.answers.specs.Replies.{answer_to}
+use Rattle.answers.specs.Replies.{answer_to, Answer}
 use Rattle.records.specs.Record.{record_slice, untried_bytes}
 use Rattle.ship.specs.Decode.{decode}
 use Rattle.survey.specs.Wishes.{is_blocked}
@@ -18,8 +16,8 @@ NamesBlocked blocked seats i = (deck_word seats i ≡ all_ones → ⊥) × (is_b
 
 -- What holds of a run on these bytes that answered so and left this output: D is 0 for such a seat, and these are its record's bytes.
 abbrev pub BlockedUnplaced : List ℕ → List ℕ → List ℕ → Answer → List ℕ → Type 0
-BlockedUnplaced file blocked seats (Refused number) out = Unit {0}
-BlockedUnplaced file blocked seats (Wrote n) out =
+BlockedUnplaced file blocked seats (Err number) out = Unit {0}
+BlockedUnplaced file blocked seats (Ok n) out =
     ((i : ℕ) → i < n → NamesBlocked blocked seats i → open_decks (view (decode file) blocked (seat_at seats i)) ≡ 0)
     × ((i : ℕ) → i < n → NamesBlocked blocked seats i → record_slice out i ≡ untried_bytes)
 

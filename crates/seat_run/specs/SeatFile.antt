@@ -1,11 +1,10 @@
 -- Document 01, section 7: a seat list's bytes, and the questions asked of them.
-use Rattle.std.specs.Prelude.{ℕ, ◌+◌, ◌*◌, ◌/◌, ◌%◌, List, Bool, ◌&&◌, ◌||◌, cond, eqb, length, Float}
+use Rattle.std.specs.Prelude.{ℕ, ◌+◌, ◌*◌, ◌/◌, ◌%◌, List, Bool, ◌&&◌, ◌||◌, cond, eqb, length, Float, Ok}
 use Rattle.words.specs.Bytes.{u32_at, f32_at}
 use Rattle.words.specs.Rows.{rows}
-use Rattle.answers.specs.declared.Check.{Check}
-use Rattle.answers.specs.declared.Check.TheVariants.{Passed}
-use Rattle.answers.specs.Checks.{ask}
+use Rattle.answers.specs.Checks.{ask, Check}
 use Rattle.answers.specs.Questions.{question14, question17}
+use Rattle.answers.specs.declared.Refusal.TheVariants.{KindNotAllowed, CallFloatOutOfRange, NoSuchDeck}
 use Rattle.ship.specs.Floats.{in_size}
 use Rattle.survey.specs.declared.Seat.{Seat}
 use Rattle.survey.specs.declared.Wish.TheVariants.{NoWish, Wished}
@@ -63,4 +62,4 @@ unfoldable pub question16_seat : List ℕ → ℕ → Bool
 question16_seat s i = in_size (seat_float s i 0) && (in_size (seat_float s i 1) && in_size (seat_float s i 4))
 
 unfoldable pub seat_check : List ℕ → ℕ → ℕ → Check
-seat_check s decks i = ask (question15 s i) 15 (ask (question16_seat s i) 16 (ask (question17 decks (deck_word s i)) 17 Passed))
+seat_check s decks i = ask (question15 s i) KindNotAllowed (ask (question16_seat s i) CallFloatOutOfRange (ask (question17 decks (deck_word s i)) NoSuchDeck (Ok tt)))

@@ -17,11 +17,11 @@ ghost use Rattle.seat_run.specs.Survey.{Surveyed};
 ghost use Rattle.seat_run.specs.Blocked.{BlockedUnplaced};
 ghost use Rattle.seat_run.specs.NoDecks.{NoDecksReplied};
 
-use answers::{Answer, Check};
+use answers::{Answer, Check, Refusal};
 use geometry::Vec2;
 use keeping::{KEPT_SIZE, NEAR_SIZE};
 use records::{RECORD_SIZE, SeatRecord};
-use survey::{Seat, Wish};
+use survey::{DeckChoice, Seat, Wish};
 
 pub const SEAT_SIZE: usize = 20;
 
@@ -45,31 +45,26 @@ fn seat_at(seats: &[u8], i: usize) -> Seat
     requires { (seat_size * i + seat_size ≤ length seats.now) × (question16_seat seats.now i ≡ true) }
     ensures { (result ≡ seat_at seats.now i) × PointWithin 1000000 result.place }
 {
-    let place = Vec2 {
-        x: seat_float(seats, i, 0),
-        y: seat_float(seats, i, 1),
-    };
-    let choice = survey::choice_of(seat_word(seats, i, 2));
-    if seat_word(seats, i, 3) == 0 {
-        Seat {
-            place,
-            choice,
-            wish: Wish::NoWish,
-        }
-    } else {
-        Seat {
-            place,
-            choice,
-            wish: Wish::Wished(seat_float(seats, i, 4)),
-        }
+    Seat {
+        place: Vec2 {
+            x: seat_float(seats, i, 0),
+            y: seat_float(seats, i, 1),
+        },
+        choice: DeckChoice::from(seat_word(seats, i, 2)),
+        wish: if seat_word(seats, i, 3) == 0 {
+            Wish::NoWish
+        } else {
+            Wish::Wished(seat_float(seats, i, 4))
+        },
     }
 }
 
 // Question 15.
+#[tactic(auto, unfolding(crate::specs::SeatFile::kind_allowed))]
 fn kind_allowed(kind: u32, height: u32) -> bool
     ensures { result ≡ kind_allowed kind height }
 {
-    if kind == 0 { height == 0 } else { kind == 1 }
+    (kind == 0 && height == 0) || kind == 1
 }
 
 // Question 16 of one of a seat's floats, and of all three of seat i.
@@ -80,14 +75,12 @@ fn float_in_size(seats: &[u8], i: usize, k: usize) -> bool
     ship::in_size(seat_word(seats, i, k))
 }
 
+#[tactic(auto, unfolding(crate::specs::SeatFile::question16_seat))]
 fn floats_in_size(seats: &[u8], i: usize) -> bool
     requires { seat_size * i + seat_size ≤ length seats.now }
     ensures { result ≡ question16_seat seats.now i }
 {
-    if !float_in_size(seats, i, 0) {
-        return false;
-    }
-    float_in_size(seats, i, 1) && float_in_size(seats, i, 4)
+    float_in_size(seats, i, 0) && float_in_size(seats, i, 1) && float_in_size(seats, i, 4)
 }
 
 // Questions 15 to 17 of seat i.
@@ -96,15 +89,15 @@ fn seat_check(seats: &[u8], decks: usize, i: usize) -> Check
     ensures { result ≡ seat_check seats.now decks i }
 {
     if !kind_allowed(seat_word(seats, i, 3), seat_word(seats, i, 4)) {
-        return Check::No(15);
+        return Err(Refusal::KindNotAllowed);
     }
     if !floats_in_size(seats, i) {
-        return Check::No(16);
+        return Err(Refusal::CallFloatOutOfRange);
     }
     if !answers::deck_there(decks, seat_word(seats, i, 2)) {
-        return Check::No(17);
+        return Err(Refusal::NoSuchDeck);
     }
-    Check::Passed
+    Ok(())
 }
 
 // Seat by seat.
@@ -112,30 +105,22 @@ fn seats_check(seats: &[u8], decks: usize) -> Check
     ensures { result ≡ check_each (seat_check seats.now decks) 0 (seat_count seats.now) }
 {
     let count = seats.len() / SEAT_SIZE;
-    let mut i: usize = 0;
-    'seats: while i < count {
-        match seat_check(seats, decks, i) {
-            Check::No(number) => return Check::No(number),
-            Check::Passed => {}
-        }
-        i += 1;
+    'seats: for i in 0..count {
+        seat_check(seats, decks, i)?;
     }
-    Check::Passed
+    Ok(())
 }
 
 // Questions 1 to 17 of the run.
 pub fn run_check(file: &[u8], blocked: &[u8], seats: &[u8]) -> Check
     ensures { result ≡ run_check file.now blocked.now seats.now }
 {
-    match ship::first_no(file) {
-        Check::No(number) => return Check::No(number),
-        Check::Passed => {}
-    }
+    ship::first_no(file)?;
     if !answers::blocked_whole(blocked) {
-        return Check::No(14);
+        return Err(Refusal::WrongLength);
     }
     if seats.len() % SEAT_SIZE != 0 {
-        return Check::No(14);
+        return Err(Refusal::WrongLength);
     }
     seats_check(seats, decks::deck_count(file))
 }
@@ -176,10 +161,7 @@ fn put_records(
         out.old out.new }
 {
     let count = seats.len() / SEAT_SIZE;
-    let mut i: usize = 0;
-    'seats: while i < count {
-        let seat = i;
-        i += 1;
+    'seats: for seat in 0..count {
         put_seat(file, blocked, table, seats, seat, out, kept, near);
     }
 }
@@ -201,17 +183,14 @@ pub fn run_over(
     ensures no_decks { NoDecksReplied file.now blocked.now seats.now
         out.old out.new result }
 {
-    match run_check(file, blocked, seats) {
-        Check::No(number) => return Answer::Refused(number),
-        Check::Passed => {}
-    }
+    run_check(file, blocked, seats)?;
     let count = seats.len() / SEAT_SIZE;
     if !answers::room_for(RECORD_SIZE, count, out.len()) {
-        return Answer::Refused(20);
+        return Err(Refusal::NoRoom);
     }
     let table = ring::all_directions();
     put_records(file, blocked, &table, seats, out, kept, near);
-    Answer::Wrote(count)
+    Ok(count)
 }
 
 // The seat run. The surveyor's statement holds of every run that is not refused, and a seat that names a blocked deck is not searched for.

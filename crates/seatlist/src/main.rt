@@ -6,7 +6,6 @@ ghost use Rattle.std.specs.Io.KnownBytes.{Appends};
 ghost use Rattle.listing.specs.Listing.{seatlist_text};
 ghost use Rattle.listing.specs.Sizes.{longest_text};
 
-use answers::Answer;
 use std::io::{self, Read, Write};
 
 // One byte more than is allowed, so that a longer input shows.
@@ -23,10 +22,7 @@ fn put_text(input: &[u8], text: &mut [u8]) -> usize
     ensures within { result ≤ length text.old }
     ensures prefix { take result text.new ≡ seatlist_text input.now }
 {
-    match listing::seatlist_text(input, text) {
-        Answer::Refused(_) => unreachable!(),
-        Answer::Wrote(n) => n,
-    }
+    listing::seatlist_text(input, text).unwrap()
 }
 
 fn print_text<W: Write>(input: &[u8], text: &mut [u8], output: &mut W) -> io::Result<()>

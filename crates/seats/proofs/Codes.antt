@@ -1,27 +1,23 @@
 -- Each call's answer over C: how many entries it wrote fits an i64, since each has more than two bytes.
 use Prim.Native.Nat.{ℕ, ◌^◌, ◌<◌}
 use native.Mathlib.Omega.{arith}
-use mathlib.Core.Path.{◌≡◌, ap, ◌∙◌}
+use mathlib.Core.Path.{◌≡◌}
 use mathlib.Core.List.{List}
-use lib.Ieee.{Float}
-use lib.IntN.{ℤ}
 use lib.ListN.{length}
 use Rattle.geometry.specs.declared.Vec2.{Vec2}
 use Rattle.words.proofs.Numbers.{length_words}
-use Rattle.answers.specs.declared.Answer.{Answer}
-use Rattle.answers.specs.Replies.{Replied, AnswerFits}
+use Rattle.answers.specs.Replies.{Answer, Replied, AnswerFits}
 use Rattle.answers.proofs.Replying.{replied_fits, replied_code, worked_code, worked_length, tabled_code, tabled_length}
 use Rattle.ship.specs.Decode.{decode}
 use Rattle.walking.specs.Sees.{shown_by}
-use Rattle.calls.specs.Closest.{point_of_parts, closest_points, closest_point, closest_points_reply, closest_point_reply}
+use Rattle.calls.specs.Closest.{closest_points, closest_point, closest_points_reply, closest_point_reply}
 use Rattle.calls.specs.HeightCall.{height_entry, height_call, height_reply}
 use Rattle.calls.proofs.EntryLoop.{length_candidates}
 use Rattle.direction.specs.Direction.{direction_of}
 use Rattle.towards.specs.Towards.{closest_towards, towards_reply}
 use Rattle.towards.proofs.Turns.{length_places}
 use Rattle.towards.proofs.SnapTheorem.{snapped_code}
-use Rattle.locating.specs.declared.Location.{Location}
-use Rattle.locating.specs.Locating.{point_layer, location_of, location_code, located_code, layer_reply}
+use Rattle.locating.specs.Locating.{point_layer, layer_reply}
 use Rattle.candidates.specs.Candidates.{candidate_polygons, CandidatesWorked}
 use Rattle.islands.specs.Islands.{IslandsWorked}
 use Rattle.islands.proofs.IslandsCall.{islands_long}
@@ -94,11 +90,6 @@ candidates_code file p deck polygon blocked h l =
 
 pub stitches_code : (file : List ℕ) {out out' : List ℕ} {r : Answer} → Replied (stitch_points_reply file) out out' r → length out < 2 ^ 64 → AnswerFits r
 stitches_code file h l = replied_fits h (omega (arith, length_stitches (stitch_points (decode file)))) l
-
-pub location_is : (file : List ℕ) (x y : Float) (deck : ℕ) {l : Location} {z : ℤ} → l ≡ location_of file (point_of_parts x y) deck → z ≡ location_code l → z ≡ located_code file x y deck
-location_is file x y deck e f = f ∙ ap location_code e
-
-pub ruleset location_codes = (location_is)
 
 pub ruleset codes = (points_code, point_code, height_code, layer_code, stitches_code, replied_code)
 

@@ -6,8 +6,8 @@ use Rattle.listing.proofs.put_run.Goals as goal
 pub put_records-requires : goal.put_records-requires
 put_records-requires c = search (texts, rules)
 
-pub returns-in-Refused : goal.returns-in-Refused
-returns-in-Refused c = search (texts, rules)
+pub returns-in-Err : goal.returns-in-Err
+returns-in-Err c = search (texts, rules)
 
-pub returns-in-Wrote : goal.returns-in-Wrote
-returns-in-Wrote c = search (texts, rules)
+pub returns-in-Ok : goal.returns-in-Ok
+returns-in-Ok c = search (texts, rules)

@@ -1,10 +1,6 @@
 -- `put_seats` meets its contract. The loop's invariant: the lines of the first i records are put.
-use Prim.Native.Nat.{◌-◌, ◌≤◌}
 use Rattle.listing.proofs.Records.{Listed}
 use Rattle.listing.proofs.put_seats.Given as goal
 
 abbrev pub invariant-seats : goal.invariant-seats
-invariant-seats l = (l.i ≤ l.count) × Listed l.records l.initial.text l.text l.at l.i
-
-abbrev pub decreases-seats : goal.decreases-seats
-decreases-seats l = l.count - l.i
+invariant-seats l = Listed l.records l.initial.text l.text l.at l.i

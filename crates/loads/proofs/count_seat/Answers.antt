@@ -6,8 +6,8 @@ use Rattle.loads.proofs.count_seat.Goals as goal
 pub add_one-requires : goal.add_one-requires
 add_one-requires c = search (seat_adding, rules)
 
-pub returns-then-polygon-eq4294967295 : goal.returns-then-polygon-eq4294967295
-returns-then-polygon-eq4294967295 c = search (seat_adding, rules)
+pub returns-then-polygon-eq-ALL_ONES : goal.returns-then-polygon-eq-ALL_ONES
+returns-then-polygon-eq-ALL_ONES c = search (seat_adding, rules)
 
-pub returns-else-polygon-eq4294967295 : goal.returns-else-polygon-eq4294967295
-returns-else-polygon-eq4294967295 c = search (seat_adding, rules)
+pub returns-else-polygon-eq-ALL_ONES : goal.returns-else-polygon-eq-ALL_ONES
+returns-else-polygon-eq-ALL_ONES c = search (seat_adding, rules)

@@ -8,7 +8,7 @@ polygon_total-total-requires c = search (counting, lent, rules)
 
 pub count_seat-requires : goal.count_seat-requires
 count_seat-requires c =
-    let loop = c.seats.invariant.1 in
+    let loop = c.seats.invariant in
     counting_ready loop.1.1.1 loop.1.0 c.seats-test.true c.put_seat-record.ensures.0 loop.0
 
 pub seats-preserved : goal.seats-preserved

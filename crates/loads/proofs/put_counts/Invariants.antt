@@ -1,5 +1,5 @@
--- `put_counts` meets its contract. The loop's invariant: the seats below i are recorded and counted.
-use Prim.Native.Nat.{◌-◌, ◌^◌, ◌≤◌, ◌<◌}
+-- `put_counts` meets its contract. The loop's invariant: the seats below `seat` are recorded and counted.
+use Prim.Native.Nat.{◌^◌, ◌<◌}
 use mathlib.Core.Path.{◌≡◌}
 use lib.ListN.{length}
 use Rattle.keeping.proofs.ListLaws.{Lent}
@@ -9,8 +9,5 @@ use Rattle.loads.proofs.put_counts.Given as goal
 
 abbrev pub invariant-seats : goal.invariant-seats
 invariant-seats l =
-    (l.i ≤ l.count) × ((length l.seats < 2 ^ 64) × ((l.count ≡ seat_count l.seats)
-    × (Lent l.initial.kept l.kept l.initial.near l.near × Counting l.file l.blocked l.directions l.seats l.initial.out l.out l.table l.work l.total l.i)))
-
-abbrev pub decreases-seats : goal.decreases-seats
-decreases-seats l = l.count - l.i
+    (length l.seats < 2 ^ 64) × ((l.count ≡ seat_count l.seats)
+    × (Lent l.initial.kept l.kept l.initial.near l.near × Counting l.file l.blocked l.directions l.seats l.initial.out l.out l.table l.work l.total l.seat))

@@ -1,5 +1,4 @@
--- `put_records` meets its contract. The loop's invariant: the records of the seats below i are written.
-use Prim.Native.Nat.{◌-◌, ◌≤◌}
+-- `put_records` meets its contract. The loop's invariant: the records of the seats below `seat` are written.
 use mathlib.Core.Path.{◌≡◌}
 use Rattle.keeping.proofs.ListLaws.{Lent}
 use Rattle.seat_run.specs.SeatFile.{seat_count}
@@ -8,7 +7,4 @@ use Rattle.seat_run.proofs.put_records.Given as goal
 
 abbrev pub invariant-seats : goal.invariant-seats
 invariant-seats l =
-    (l.i ≤ l.count) × ((l.count ≡ seat_count l.seats) × (Lent l.initial.kept l.kept l.initial.near l.near × Recording l.file l.blocked l.table l.seats l.initial.out l.out l.i))
-
-abbrev pub decreases-seats : goal.decreases-seats
-decreases-seats l = l.count - l.i
+    (l.count ≡ seat_count l.seats) × (Lent l.initial.kept l.kept l.initial.near l.near × Recording l.file l.blocked l.table l.seats l.initial.out l.out l.seat)
