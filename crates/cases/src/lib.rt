@@ -1,4 +1,4 @@
-// What the programs of stored cases share: how lent memory is filled before a call, the lines of an answer, the place of a query.
+// What the programs of stored cases share: how an input of cases is read, how lent memory is filled before a call, the lines of an answer.
 // The answer's first line: `wrote` or `refused`, the number, and `kept` if the output past the answer (all of it for a refusal) is as
 // it was filled, else `altered`. Of a call that is lent a table, the same word of the table. Of a call that is lent work, one word more:
 // after an answer `zeros` if all of the work is zeros, after a refusal `untouched` if all of it is as it was filled, else `altered`. A
@@ -6,12 +6,13 @@
 // each, the lower one first.
 #![tactic(auto)]
 
-ghost use Rattle.std.specs.Prelude.{◌+◌, ◌<◌, ◌≤◌, length};
+ghost use Rattle.std.specs.Prelude.{◌^◌, ◌<◌};
+
+mod input;
 
 use answers::Answer;
-use geometry::Vec2;
+pub use input::{Case, Input, Room, print_answers, replay};
 use std::io::{self, Write};
-use words::u32_at;
 
 // What every byte of lent memory is before a call.
 pub const FILL: u8 = 0xA5;
@@ -25,8 +26,8 @@ pub fn print_word<W: Write>(out: &mut W, n: u32) -> io::Result<()> {
 }
 
 fn print_entry<W: Write>(out: &mut W, entry: &[u8]) -> io::Result<()> {
-    for word in entry.chunks_exact(4) {
-        print_word(out, u32_at(word, 0))?;
+    for word in entry.as_chunks::<4>().0 {
+        print_word(out, u32::from_le_bytes(*word))?;
     }
     out.write_all(b"\n")
 }
@@ -41,97 +42,119 @@ fn print_entries<W: Write>(out: &mut W, entries: &[u8], width: usize) -> io::Res
     Ok(())
 }
 
-// Whether the bytes from `from` on are all `fill`.
-fn is_filled(bytes: &[u8], from: usize, fill: u8) -> bool {
-    bytes.iter().skip(from).all(|b| *b == fill)
+fn is_filled(bytes: &[u8], fill: u8) -> bool {
+    bytes.iter().all(|b| *b == fill)
 }
 
 // ---- answers
-// Where an answer of `unit` bytes for each that it counts ends in the output; a count that the output cannot hold takes all of it.
-fn answer_end(answer: Answer, unit: usize, room: usize) -> usize
-    requires { 0 < unit }
-    ensures { result ≤ room }
-{
-    match answer {
-        Answer::Refused(_) => 0,
-        Answer::Wrote(count) => {
-            if count > room / unit {
-                return room;
-            }
-            count * unit
-        }
-    }
+// The part of lent memory that an answer wrote, `size` bytes for each that it counts, and what is left of it. What the memory cannot
+// hold takes all of it.
+fn parts(answer: Answer, size: usize, lent: &[u8]) -> (&[u8], &[u8]) {
+    let end = answer.map_or(0, |count| count.saturating_mul(size));
+    lent.split_at(end.min(lent.len()))
 }
 
-// Where the table's part of an answer ends, which takes `counts` bytes; what the table cannot hold takes all of it.
-fn table_end(answer: Answer, counts: usize, room: usize) -> usize
-    ensures { result ≤ room }
-{
-    match answer {
-        Answer::Refused(_) => 0,
-        Answer::Wrote(_) => counts.min(room),
-    }
-}
-
-// Whether lent memory from `end` on is as it was filled.
-fn print_kept<W: Write>(out: &mut W, lent: &[u8], end: usize) -> io::Result<()> {
-    if is_filled(lent, end, FILL) {
-        out.write_all(b" kept")
+// Whether what is left of lent memory is as it was filled.
+fn print_kept<W: Write>(out: &mut W, left: &[u8]) -> io::Result<()> {
+    out.write_all(if is_filled(left, FILL) {
+        b" kept"
     } else {
-        out.write_all(b" altered")
-    }
+        b" altered"
+    })
 }
 
-// The first line up to its end, for an answer that ends at `end`.
-fn print_head<W: Write>(out: &mut W, answer: Answer, end: usize, lent: &[u8]) -> io::Result<()> {
+// The first line up to the word of the output, of which the answer left `left`.
+fn print_head<W: Write>(out: &mut W, answer: Answer, left: &[u8]) -> io::Result<()> {
     match answer {
-        Answer::Refused(number) => write!(out, "refused {number}")?,
-        Answer::Wrote(count) => write!(out, "wrote {count}")?,
+        Err(refusal) => write!(out, "refused {refusal}")?,
+        Ok(count) => write!(out, "wrote {count}")?,
     }
-    print_kept(out, lent, end)
+    print_kept(out, left)
 }
 
-// `unit` bytes for each that the answer counts, `width` bytes an entry.
-pub fn print_answer<W: Write>(
-    out: &mut W,
-    answer: Answer,
-    unit: usize,
-    width: usize,
-    lent: &[u8],
-) -> io::Result<()>
-    requires { (0 < unit) × (0 < width) }
-{
-    let end = answer_end(answer, unit, lent.len());
-    print_head(out, answer, end, lent)?;
-    out.write_all(b"\n")?;
-    print_entries(out, &lent[..end], width)
-}
-
+// The last word of the first line of a call that is lent work.
 fn print_work<W: Write>(out: &mut W, answer: Answer, work: &[u8]) -> io::Result<()> {
     match answer {
-        Answer::Refused(_) if is_filled(work, 0, FILL) => out.write_all(b" untouched\n"),
-        Answer::Wrote(_) if is_filled(work, 0, 0) => out.write_all(b" zeros\n"),
+        Err(_) if is_filled(work, FILL) => out.write_all(b" untouched\n"),
+        Ok(_) if is_filled(work, 0) => out.write_all(b" zeros\n"),
         _ => out.write_all(b" altered\n"),
     }
 }
 
-// The same of a call that is lent work.
-pub fn print_worked<W: Write>(
+// The answer of a call that counts entries of `width` bytes.
+pub fn print_answer<W: Write>(
     out: &mut W,
     answer: Answer,
     width: usize,
     lent: &[u8],
-    work: &[u8],
 ) -> io::Result<()>
     requires { 0 < width }
 {
-    let end = answer_end(answer, width, lent.len());
-    print_head(out, answer, end, lent)?;
-    print_work(out, answer, work)?;
-    print_entries(out, &lent[..end], width)
+    let (written, left) = parts(answer, width, lent);
+    print_head(out, answer, left)?;
+    out.write_all(b"\n")?;
+    print_entries(out, written, width)
 }
 
-// The same of a call that is lent a table too, of which an answer takes `counts` bytes.
+// Makes a call that is lent `room` bytes, and prints its answer.
+pub fn print_call<const N: usize, W: Write, F: FnOnce(&mut [u8]) -> Answer>(
+    out: &mut W,
+    room: Room<N>,
+    width: usize,
+    call: F,
+) -> io::Result<()>
+    requires one_object { N < 2 ^ 63 }
+    requires some_width { 0 < width }
+    requires callable { F.IsAlwaysCallable call }
+{
+    let mut memory = [FILL; N];
+    let lent = &mut memory[..room.size];
+    let answer = call(lent);
+    print_answer(out, answer, width, lent)
+}
+
+// The same of a call that counts the bytes of a new file, which is printed a word a line.
+pub fn print_file_call<const N: usize, W: Write, F: FnOnce(&mut [u8]) -> Answer>(
+    out: &mut W,
+    room: Room<N>,
+    call: F,
+) -> io::Result<()>
+    requires one_object { N < 2 ^ 63 }
+    requires callable { F.IsAlwaysCallable call }
+{
+    let mut memory = [FILL; N];
+    let lent = &mut memory[..room.size];
+    let answer = call(lent);
+    let (written, left) = parts(answer, 1, lent);
+    print_head(out, answer, left)?;
+    out.write_all(b"\n")?;
+    print_entries(out, written, 4)
+}
+
+// The same of a call that is lent work too.
+pub fn print_work_call<const N: usize, W: Write, F: FnOnce(&mut [u8], &mut [u8]) -> Answer>(
+    out: &mut W,
+    room: Room<N>,
+    work_room: Room<N>,
+    width: usize,
+    call: F,
+) -> io::Result<()>
+    requires one_object { N < 2 ^ 63 }
+    requires some_width { 0 < width }
+    requires callable { F.IsAlwaysCallable call }
+{
+    let mut memory = [FILL; N];
+    let lent = &mut memory[..room.size];
+    let mut work_memory = [FILL; N];
+    let work = &mut work_memory[..work_room.size];
+    let answer = call(lent, work);
+    let (written, left) = parts(answer, width, lent);
+    print_head(out, answer, left)?;
+    print_work(out, answer, work)?;
+    print_entries(out, written, width)
+}
+
+// The answer of a call that is lent a table too, of which an answer takes `counts` bytes.
 pub fn print_tabled<W: Write>(
     out: &mut W,
     answer: Answer,
@@ -143,27 +166,11 @@ pub fn print_tabled<W: Write>(
 ) -> io::Result<()>
     requires { 0 < width }
 {
-    let end = answer_end(answer, width, lent.len());
-    let counted = table_end(answer, counts, table.len());
-    print_head(out, answer, end, lent)?;
-    print_kept(out, table, counted)?;
+    let (written, left) = parts(answer, width, lent);
+    let (counted, table_left) = parts(answer.map(|_| 1), counts, table);
+    print_head(out, answer, left)?;
+    print_kept(out, table_left)?;
     print_work(out, answer, work)?;
-    print_entries(out, &lent[..end], width)?;
-    print_entries(out, &table[..counted], COUNT_SIZE)
-}
-
-// ---- places
-// The place whose x and y stand at `at`, if it is one. No float can be made of a NaN's pattern.
-pub fn place_at(rest: &[u8], at: usize) -> Option<Vec2>
-    requires { at + 8 ≤ length rest.now }
-{
-    let x = u32_at(rest, at);
-    let y = u32_at(rest, at + 4);
-    if x % 0x8000_0000 > 0x7F80_0000 || y % 0x8000_0000 > 0x7F80_0000 {
-        return None;
-    }
-    Some(Vec2 {
-        x: f32::from_bits(x),
-        y: f32::from_bits(y),
-    })
+    print_entries(out, written, width)?;
+    print_entries(out, counted, COUNT_SIZE)
 }

@@ -3,256 +3,218 @@
 // NaN, `-` for no height, and the one word `bad` for a line that is no case or asks for what the function does not take.
 #![tactic(auto)]
 
-ghost use Rattle.std.specs.Prelude.{◌≡◌, ◌+◌, ◌*◌, ◌<◌, ◌≤◌, length};
+ghost use Rattle.std.specs.Prelude.{IfSome, ◌≡◌, ◌+◌, ◌*◌, ◌<◌, ◌≤◌, length};
 ghost use Rattle.ring.specs.Table.{directions};
 
 use cases::print_word;
-use geometry::{EdgeSide, EdgeTest, Height, HeightSum, Vec2};
+use geometry::{Height, HeightSum, Vec2};
 use std::io::{self, Write};
 
 // What a case's function says.
-#[derive(Clone, Copy)]
-enum Answer {
-    Bad,
-    None,
+#[derive(Clone, Copy, Debug, PartialEq)]
+enum Value {
     Number(u32),
     Float(f32),
+    Height(Height),
     Point(Vec2),
 }
 
-// How many words a function's case has, and 0 for a letter that is no function.
-fn words_of(letter: u8) -> usize
-    ensures { result ≤ 8 }
+// A word of a case, as a whole number and as the float of that pattern.
+#[derive(Clone, Copy, Debug, PartialEq)]
+struct Word {
+    whole: u32,
+    real: f32,
+}
+
+// How many words a function's case has; none for a letter that is no function.
+fn words_of(letter: u8) -> Option<usize>
+    ensures { IfSome result (λ count. count ≤ 8) }
 {
     match letter {
-        b'A' | b'R' => 1,
-        b'N' | b'X' => 2,
-        b'D' | b'C' | b'P' => 4,
-        b'S' | b'M' => 5,
-        b'E' | b'B' | b'G' | b'T' => 6,
-        b'H' => 8,
-        _ => 0,
+        b'A' | b'R' => Some(1),
+        b'N' | b'X' => Some(2),
+        b'D' | b'C' | b'P' => Some(4),
+        b'S' | b'M' => Some(5),
+        b'E' | b'B' | b'G' | b'T' => Some(6),
+        b'H' => Some(8),
+        _ => None,
     }
 }
 
-// The value of a capital hexadecimal digit, and 16 for any other byte.
-fn digit(b: u8) -> u32 {
+// The value of a capital hexadecimal digit.
+fn digit(b: u8) -> Option<u32> {
     match b {
-        b'0'..=b'9' => b as u32 - 48,
-        b'A'..=b'F' => b as u32 - 55,
-        _ => 16,
+        b'0'..=b'9' => Some(b as u32 - 48),
+        b'A'..=b'F' => Some(b as u32 - 55),
+        _ => None,
     }
 }
 
-// The number of the word at `at`, if it is one: a space and 8 digits.
-fn word_at(line: &[u8], at: usize) -> Option<u32>
+// The word at `at`, if it is one: a space and 8 digits. A NaN's pattern is refused: no function takes it, as a float or as a whole number.
+#[tactic(auto, using(std::proofs::lemmas::Float::not_nan_f32_bits))]
+fn word_at(line: &[u8], at: usize) -> Option<Word>
     requires { at + 9 ≤ length line.now }
 {
     if line[at] != b' ' {
         return None;
     }
     let mut n: u32 = 0;
-    for k in 1..9 {
-        let d = digit(line[at + k]);
-        if d > 15 {
-            return None;
-        }
-        n = n << 4 | d;
+    for b in &line[at + 1..at + 9] {
+        n = n << 4 | digit(*b)?;
     }
-    Some(n)
+    if n % 0x8000_0000 > 0x7F80_0000 {
+        return None;
+    }
+    Some(Word {
+        whole: n,
+        real: f32::from_bits(n),
+    })
 }
 
-// Reads the words of a line, each as a whole number and as a float. A word that is a NaN's pattern is refused: no function takes it,
-// as a float or as a whole number.
-fn read_words(line: &[u8], count: usize, whole: &mut [u32; 8], real: &mut [f32; 8]) -> bool
+// The words of a line. Those past `count` are zeros.
+fn read_words(line: &[u8], count: usize) -> Option<[Word; 8]>
     requires { (count ≤ 8) × (1 + 9 * count ≤ length line.now) }
 {
+    let mut words = [Word {
+        whole: 0,
+        real: 0.0,
+    }; 8];
     for k in 0..count {
-        let Some(n) = word_at(line, 1 + 9 * k) else {
-            return false;
-        };
-        if n % 0x8000_0000 > 0x7F80_0000 {
-            return false;
-        }
-        whole[k] = n;
-        real[k] = f32::from_bits(n);
+        words[k] = word_at(line, 1 + 9 * k)?;
     }
-    true
+    Some(words)
 }
 
-fn point(real: &[f32; 8], k: usize) -> Vec2
+fn point(words: &[Word; 8], k: usize) -> Vec2
     requires { k < 7 }
 {
     Vec2 {
-        x: real[k],
-        y: real[k + 1],
+        x: words[k].real,
+        y: words[k + 1].real,
     }
 }
 
-fn flag(b: bool) -> Answer {
-    if b {
-        Answer::Number(1)
-    } else {
-        Answer::Number(0)
-    }
+fn flag(b: bool) -> Value {
+    Value::Number(u32::from(b))
 }
 
-fn sample(t: &[i32; 2432], p: Vec2, reach: f32, step: u32, number: u32) -> Answer
+fn sample(t: &[i32; 2432], p: Vec2, reach: f32, step: u32, number: u32) -> Option<Value>
     requires { t.now ≡ directions }
 {
     let s = step as usize;
     let i = number as usize;
-    if s >= 16 {
-        return Answer::Bad;
+    if s >= 16 || i > 10 * s {
+        return None;
     }
-    if i > 10 * s {
-        return Answer::Bad;
-    }
-    Answer::Point(ring::sample(t, p, reach, s, i))
+    Some(Value::Point(ring::sample(t, p, reach, s, i)))
 }
 
-fn probe(p: Vec2, reach: f32, number: u32) -> Answer {
+fn probe(p: Vec2, reach: f32, number: u32) -> Option<Value> {
     let k = number as usize;
     if k >= 9 {
-        return Answer::Bad;
+        return None;
     }
-    Answer::Point(ring::probe(p, reach, k))
+    Some(Value::Point(ring::probe(p, reach, k)))
 }
 
-fn side(p: Vec2, a: Vec2, b: Vec2) -> Answer {
-    match geometry::side(p, a, b) {
-        EdgeSide::Edge => Answer::Number(0),
-        EdgeSide::Left => Answer::Number(1),
-        EdgeSide::Right => Answer::Number(2),
+// The mean of 1 to 4 heights, which follow their number.
+fn mean(count: u32, words: &[Word; 8]) -> Option<Value> {
+    if count < 1 || count > 4 {
+        return None;
     }
-}
-
-fn edge_test(p: Vec2, a: Vec2, b: Vec2) -> Answer {
-    match geometry::edge_test(p, a, b) {
-        EdgeTest::Inside => Answer::Number(0),
-        EdgeTest::Outside => Answer::Number(1),
-        EdgeTest::Next => Answer::Number(2),
+    let mut sum = HeightSum::first(words[1].real);
+    for word in &words[2..count as usize + 1] {
+        sum = sum.plus(word.real);
     }
-}
-
-fn height_along(p: Vec2, a: Vec2, b: Vec2, h0: f32, h1: f32) -> Answer {
-    match geometry::height_along(p, a, b, h0, h1) {
-        Height::Known(h) => Answer::Float(h),
-        Height::None => Answer::None,
-    }
-}
-
-// The mean of 1 to 4 heights.
-fn mean(count: u32, real: &[f32; 8]) -> Answer {
-    if count < 1 {
-        return Answer::Bad;
-    }
-    if count > 4 {
-        return Answer::Bad;
-    }
-    let mut sum = HeightSum::first(real[1]);
-    for k in 2..count as usize + 1 {
-        sum = sum.plus(real[k]);
-    }
-    Answer::Float(sum.mean())
+    Some(Value::Float(sum.mean()))
 }
 
 // The root of a pattern's number, which is above zero and finite.
-fn square_root(bits: u32) -> Answer {
-    if bits < 1 {
-        return Answer::Bad;
+#[tactic(auto, using(root::proofs::Floats::pattern_no_nan, root::proofs::Floats::pattern_positive))]
+fn square_root(bits: u32) -> Option<Value> {
+    if bits < 1 || bits >= 0x7F80_0000 {
+        return None;
     }
-    if bits >= 0x7F80_0000 {
-        return Answer::Bad;
-    }
-    Answer::Float(root::sqrt(f32::from_bits(bits)))
+    Some(Value::Float(root::sqrt(f32::from_bits(bits))))
 }
 
-// The functions of an edge and a point.
-fn at_edge(letter: u8, real: &[f32; 8]) -> Answer {
-    let p = point(real, 0);
-    let a = point(real, 2);
-    let b = point(real, 4);
+// The functions of an edge and a point. A side and a test are numbered as their variants are declared.
+fn at_edge(letter: u8, words: &[Word; 8]) -> Option<Value> {
+    let p = point(words, 0);
+    let a = point(words, 2);
+    let b = point(words, 4);
     match letter {
-        b'E' => side(p, a, b),
-        b'B' => flag(geometry::in_bounding_box(p, a, b)),
-        b'G' => flag(geometry::on_segment(p, a, b)),
-        b'T' => edge_test(p, a, b),
-        b'H' => height_along(p, a, b, real[6], real[7]),
-        _ => Answer::Bad,
+        b'E' => Some(Value::Number(geometry::side(p, a, b) as u32)),
+        b'B' => Some(flag(geometry::in_bounding_box(p, a, b))),
+        b'G' => Some(flag(geometry::on_segment(p, a, b))),
+        b'T' => Some(Value::Number(geometry::edge_test(p, a, b) as u32)),
+        b'H' => Some(Value::Height(geometry::height_along(p, a, b, words[6].real, words[7].real))),
+        _ => None,
     }
 }
 
-fn case_answer(t: &[i32; 2432], letter: u8, whole: &[u32; 8], real: &[f32; 8]) -> Answer
+fn case_answer(t: &[i32; 2432], letter: u8, words: &[Word; 8]) -> Option<Value>
     requires { t.now ≡ directions }
 {
     match letter {
-        b'S' => sample(t, point(real, 0), real[2], whole[3], whole[4]),
-        b'P' => probe(point(real, 0), real[2], whole[3]),
-        b'M' => mean(whole[0], real),
-        b'A' => Answer::Float(geometry::abs(real[0])),
-        b'R' => square_root(whole[0]),
-        b'N' => Answer::Float(geometry::min(real[0], real[1])),
-        b'X' => Answer::Float(geometry::max(real[0], real[1])),
-        b'D' => Answer::Float(geometry::dot(point(real, 0), point(real, 2))),
-        b'C' => Answer::Float(geometry::perp_dot(point(real, 0), point(real, 2))),
-        _ => at_edge(letter, real),
+        b'S' => sample(
+            t,
+            point(words, 0),
+            words[2].real,
+            words[3].whole,
+            words[4].whole,
+        ),
+        b'P' => probe(point(words, 0), words[2].real, words[3].whole),
+        b'M' => mean(words[0].whole, words),
+        b'A' => Some(Value::Float(geometry::abs(words[0].real))),
+        b'R' => square_root(words[0].whole),
+        b'N' => Some(Value::Float(geometry::min(words[0].real, words[1].real))),
+        b'X' => Some(Value::Float(geometry::max(words[0].real, words[1].real))),
+        b'D' => Some(Value::Float(geometry::dot(point(words, 0), point(words, 2)))),
+        b'C' => Some(Value::Float(geometry::perp_dot(point(words, 0), point(words, 2)))),
+        _ => at_edge(letter, words),
     }
 }
 
-// The answer to a line, which ends with its newline.
-fn line_answer(t: &[i32; 2432], line: &[u8]) -> Answer
+// The answer to a line, which ends with its newline; none for a line that is no case or asks for what the function does not take.
+fn line_answer(t: &[i32; 2432], line: &[u8]) -> Option<Value>
     requires { (t.now ≡ directions) × (0 < length line.now) }
 {
     let letter = line[0];
-    let count = words_of(letter);
-    if count == 0 {
-        return Answer::Bad;
+    let count = words_of(letter)?;
+    if line.len() != 9 * count + 2 || line[9 * count + 1] != b'\n' {
+        return None;
     }
-    if line.len() != 9 * count + 2 {
-        return Answer::Bad;
-    }
-    if line[9 * count + 1] != b'\n' {
-        return Answer::Bad;
-    }
-    let mut whole = [0u32; 8];
-    let mut real = [0.0f32; 8];
-    if !read_words(line, count, &mut whole, &mut real) {
-        return Answer::Bad;
-    }
-    case_answer(t, letter, &whole, &real)
+    case_answer(t, letter, &read_words(line, count)?)
 }
 
-// The bit pattern of a NaN cannot be asked for; a NaN is what does not equal itself.
+// The bit pattern of a NaN cannot be asked for.
 fn print_float<W: Write>(out: &mut W, x: f32) -> io::Result<()> {
-    if x == x {
-        print_word(out, x.to_bits())
-    } else {
+    if x.is_nan() {
         out.write_all(b" nan")
+    } else {
+        print_word(out, x.to_bits())
     }
 }
 
-fn print_answer<W: Write>(out: &mut W, letter: u8, a: Answer) -> io::Result<()> {
-    match a {
-        Answer::Bad => return out.write_all(b"bad\n"),
-        Answer::None => {
-            out.write_all(&[letter])?;
-            out.write_all(b" -")?;
-        }
-        Answer::Number(n) => {
-            out.write_all(&[letter])?;
-            print_word(out, n)?;
-        }
-        Answer::Float(x) => {
-            out.write_all(&[letter])?;
-            print_float(out, x)?;
-        }
-        Answer::Point(p) => {
-            out.write_all(&[letter])?;
+fn print_value<W: Write>(out: &mut W, value: Value) -> io::Result<()> {
+    match value {
+        Value::Number(n) => print_word(out, n),
+        Value::Float(x) | Value::Height(Height::Known(x)) => print_float(out, x),
+        Value::Height(Height::None) => out.write_all(b" -"),
+        Value::Point(p) => {
             print_float(out, p.x)?;
-            print_float(out, p.y)?;
+            print_float(out, p.y)
         }
     }
+}
+
+fn print_answer<W: Write>(out: &mut W, letter: u8, answer: Option<Value>) -> io::Result<()> {
+    let Some(value) = answer else {
+        return out.write_all(b"bad\n");
+    };
+    out.write_all(&[letter])?;
+    print_value(out, value)?;
     out.write_all(b"\n")
 }
 
@@ -261,22 +223,21 @@ fn line_end(text: &[u8]) -> usize
     requires { 0 < length text.now }
     ensures { (0 < result) × (result ≤ length text.now) }
 {
-    for i in 0..text.len() {
-        if text[i] == b'\n' {
-            return i + 1;
-        }
+    match text.iter().position(|b| *b == b'\n') {
+        Some(i) => i + 1,
+        None => text.len(),
     }
-    text.len()
 }
 
 fn print_answers<W: Write>(out: &mut W, t: &[i32; 2432], text: &[u8]) -> io::Result<()>
     requires { t.now ≡ directions }
 {
     let mut rest = text;
+    // A while: where a line ends is found by looking.
     while !rest.is_empty() {
-        let end = line_end(rest);
-        print_answer(out, rest[0], line_answer(t, &rest[..end]))?;
-        rest = &rest[end..];
+        let (line, later) = rest.split_at(line_end(rest));
+        print_answer(out, line[0], line_answer(t, line))?;
+        rest = later;
     }
     Ok(())
 }

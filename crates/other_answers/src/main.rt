@@ -3,9 +3,10 @@
 
 use std::io;
 
-// An input that does not fit is cut: `bad`, or too few lines, shows it.
 fn main(rt: HostRuntime) -> io::Result<()> {
-    let mut buffer = [0u8; 262144];
-    let n = reading::read_full(&mut rt.stdin(), &mut buffer)?;
-    other_replay::print_answers(&mut rt.stdout(), &buffer[..n])
+    cases::replay::<262144, _, _, _>(
+        &mut rt.stdin(),
+        &mut rt.stdout(),
+        other_replay::print_answers,
+    )
 }

@@ -3,9 +3,10 @@
 
 use std::io;
 
-// An input that does not fit is cut: `bad`, or too few lines, shows it.
 fn main(rt: HostRuntime) -> io::Result<()> {
-    let mut buffer = [0u8; 294912];
-    let n = reading::read_full(&mut rt.stdin(), &mut buffer)?;
-    other_replay::print_answers(&mut rt.stdout(), &buffer[..n])
+    cases::replay::<294912, _, _, _>(
+        &mut rt.stdin(),
+        &mut rt.stdout(),
+        other_replay::print_answers,
+    )
 }

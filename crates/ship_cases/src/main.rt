@@ -1,42 +1,34 @@
 // Runs the cases of tools/ship_cases.py. The input is cases, one after the other: a length (u32, little-endian), then a ship file of
-// that many bytes. The answer is a line: `passed`, or `no` and the number of the first question that the file does not pass. A length
-// that runs past the input gives the one word `bad`, and nothing after it is read.
+// that many bytes. The answer is a line: `passed`, or `no` and the number of the first question that the file does not pass.
 #![tactic(auto)]
 
-use answers::Check;
+use cases::{Case, Input};
 use std::io::{self, Write};
 
-fn print_answer<W: Write>(out: &mut W, answer: Check) -> io::Result<()> {
-    match answer {
-        Check::Passed => out.write_all(b"passed\n"),
-        Check::No(number) => writeln!(out, "no {number}"),
-    }
+#[derive(Clone, Copy)]
+struct Ship<'a> {
+    file: &'a [u8],
 }
 
-fn print_bad<W: Write>(out: &mut W) -> io::Result<()> {
-    out.write_all(b"bad\n")
+impl<'a> Case<'a> for Ship<'a> {
+    fn read(input: &mut Input<'a>) -> Option<Self> {
+        let length = input.size()?;
+        let file = input.bytes(length)?;
+        Some(Ship { file })
+    }
+
+    fn run<W: Write>(self, out: &mut W) -> io::Result<()> {
+        match ship::first_no(self.file) {
+            Ok(()) => out.write_all(b"passed\n"),
+            Err(refusal) => writeln!(out, "no {refusal}"),
+        }
+    }
 }
 
 fn print_answers<W: Write>(out: &mut W, input: &[u8]) -> io::Result<()> {
-    let mut rest = input;
-    while !rest.is_empty() {
-        if rest.len() < 4 {
-            return print_bad(out);
-        }
-        let length = words::size_at(rest, 0);
-        if length > rest.len() - 4 {
-            return print_bad(out);
-        }
-        let end = 4 + length;
-        print_answer(out, ship::first_no(&rest[4..end]))?;
-        rest = &rest[end..];
-    }
-    Ok(())
+    cases::print_answers::<Ship<'_>, W>(out, input)
 }
 
-// An input that does not fit is cut: `bad`, or too few lines, shows it.
 fn main(rt: HostRuntime) -> io::Result<()> {
-    let mut buffer = [0u8; 262144];
-    let n = reading::read_full(&mut rt.stdin(), &mut buffer)?;
-    print_answers(&mut rt.stdout(), &buffer[..n])
+    cases::replay::<262144, _, _, _>(&mut rt.stdin(), &mut rt.stdout(), print_answers)
 }

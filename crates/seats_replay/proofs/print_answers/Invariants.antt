@@ -1,5 +1,0 @@
-use Rattle.std.proofs.Common.{length}
-use Rattle.seats_replay.proofs.print_answers.Given as goal
-
-abbrev pub decreases-loop-rest : goal.decreases-loop-rest
-decreases-loop-rest g l = length l.rest
