@@ -1,13 +1,16 @@
 -- A deck that is read in place: what its blocks show is the model's deck.
-use Prim.Native.Nat.{ℕ, ◌+◌, ◌*◌, ◌≤◌, ◌<◌}
+use Prim.Native.Nat.{ℕ, ◌+◌, ◌-◌, ◌*◌, ◌≤◌, ◌<◌}
 use native.Mathlib.Omega.{arith}
 use mathlib.Core.Path.{◌≡◌, sym, ap, ◌∙◌, subst}
 use mathlib.Core.Bool.{not}
 use mathlib.Core.List.{List}
 use mathlib.Core.Logic.{◌⊎◌, inl, inr}
 use lib.Dec.{T}
-use lib.ListN.{length, get_or}
-use lib.Ieee.{Float, binary32, nan_bits}
+use lib.ListN.{length, get_or, take, drop, length-drop}
+use Rattle.std.proofs.Common.{get_or-drop}
+use Rattle.std.proofs.lemmas.List.{take_rest}
+use native.Mathlib.Nat.{add_assoc}
+use lib.Ieee.{Float, binary32, nan_bits, of_bits}
 use Rattle.std.specs.Prelude.{Ok}
 use Rattle.words.specs.Bytes.{u32_at, f32_at}
 use Rattle.ship.specs.declared.Blocks.{Blocks}
@@ -20,6 +23,18 @@ use Rattle.ship.proofs.Passed.{passed_header}
 use Rattle.ship.proofs.Facts.{sound}
 use Rattle.ship.proofs.ModelFacts.{vertices_length, polygons_length, heights_length, deck_within, deck_there, deck_of_lem}
 use Rattle.decks.proofs.Readers.{v_inside, p_inside, h_inside, offset_is, point_is, height_is, offset_x_not_nan, offset_y_not_nan, vertex_x_not_nan, vertex_y_not_nan, height_not_nan, neighbour_count_is, neighbour_is, neighbour_inside, corner_count_is, some_corner, few_corners, corner_is, corner_there, corner_inside, whole_rows}
+
+-- ---- what is read of the part of the bytes from a position on
+pub part : (s : List ℕ) (k : ℕ) → take (length s - k) (drop k s) ≡ drop k s
+part s k = take_rest s k
+
+pub part_long : (s : List ℕ) (k i : ℕ) → k + i ≤ length s → i ≤ length (take (length s - k) (drop k s))
+part_long s k i h = rw (part s k, length-drop k s) (omega arith)
+
+pub part_read : (s : List ℕ) (k i : ℕ) → u32_at (take (length s - k) (drop k s)) i ≡ u32_at s (k + i)
+unfolding u32_at
+part_read s k i =
+    rw (part s k, get_or-drop k s i 0, get_or-drop k s (i + 1) 0, get_or-drop k s (i + 2) 0, get_or-drop k s (i + 3) 0, add_assoc k i 1, add_assoc k i 2, add_assoc k i 3)
 
 module _ (s : List ℕ) (b : Blocks) {deck : Deck} (seen : deck_at s b ≡ deck) where
   pub vertices_seen : b.vertices ≡ length deck.vertices
@@ -63,6 +78,27 @@ module _ (s : List ℕ) (b : Blocks) {deck : Deck} (seen : deck_at s b ≡ deck)
     pub point_seen : {x y : Float} → x ≡ f32_at s (vertex_position b i) → y ≡ f32_at s (vertex_position b i + number_size)
         → record { x = x; y = y } ≡ point_of deck i
     point_seen e f = point_is s b vertex_there e f ∙ ap (λ (k : Deck). point_of k i) seen
+
+    -- the same, read in the part of the bytes that the vertices begin
+    abbrev pub from_v : List ℕ
+    from_v = take (length s - (b.v + deck_offset_size)) (drop (b.v + deck_offset_size) s)
+
+    at_x : u32_at from_v (vertex_size * i) ≡ u32_at s (vertex_position b i)
+    at_x = part_read s (b.v + deck_offset_size) (vertex_size * i)
+
+    at_y : u32_at from_v (vertex_size * i + number_size) ≡ u32_at s (vertex_position b i + number_size)
+    at_y = part_read s (b.v + deck_offset_size) (vertex_size * i + number_size) ∙ ap (u32_at s) (omega arith)
+
+    pub x_part : DeckOfPassed s b → (vertex_size * i + number_size ≤ length from_v) × T (not (nan_bits binary32 (u32_at from_v (vertex_size * i))))
+    x_part h = (part_long s (b.v + deck_offset_size) (vertex_size * i + number_size) (omega (arith, vertex_inside h)), rw at_x (x_seen h))
+
+    pub y_part : DeckOfPassed s b
+        → (vertex_size * i + number_size + number_size ≤ length from_v) × T (not (nan_bits binary32 (u32_at from_v (vertex_size * i + number_size))))
+    y_part h = (part_long s (b.v + deck_offset_size) (vertex_size * i + number_size + number_size) (omega (arith, vertex_inside h)), rw at_y (y_seen h))
+
+    pub part_seen : {x y : Float} → x ≡ f32_at from_v (vertex_size * i) → y ≡ f32_at from_v (vertex_size * i + number_size)
+        → record { x = x; y = y } ≡ point_of deck i
+    part_seen e f = point_seen (e ∙ ap (of_bits binary32) at_x) (f ∙ ap (of_bits binary32) at_y)
 
     module _ (h : DeckOfPassed s b) (some : 0 < length deck.heights) where
       height_there : i < b.heights

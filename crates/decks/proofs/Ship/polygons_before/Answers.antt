@@ -1,6 +1,6 @@
 use borrow.Author.Rules.{rules}
 use Rattle.decks.proofs.PolygonTotal.{totals}
-use Rattle.decks.proofs.polygons_before.Goals as goal
+use Rattle.decks.proofs.Ship.polygons_before.Goals as goal
 
 pub decks-init : goal.decks-init
 decks-init c = search (totals, rules)
