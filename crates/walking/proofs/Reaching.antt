@@ -33,8 +33,9 @@ use Rattle.sifting.specs.Sifted.{KeptOver, Around}
 use Rattle.sifting.proofs.SiftLoop.{over_at}
 use Rattle.survey.specs.Search.{turn}
 use Rattle.search.specs.OnDeck.{deck_turn}
-use Rattle.walking.specs.Sees.{sample_on, shown_by, CandidateIn}
-use Rattle.walking.specs.Lists.{search_box, TurnReady}
+use Rattle.survey.specs.declared.Seat.{Seat}
+use Rattle.walking.specs.Sees.{sample_on, shown_by, TurnIn, CandidateIn}
+use Rattle.walking.specs.Lists.{search_box, WalkReady, TurnReady}
 use Rattle.walking.proofs.ShownLaws.{turn_shown, step_few}
 
 -- ---- the reach, and a point in a deck's coordinates
@@ -78,6 +79,11 @@ module _ (file : List ℕ) {d : ℕ} {p : Vec2} (passed : first_no file ≡ Ok t
       in_search (sample_of (on_deck file p d) (decode file).reach s i) (sample_in_box close (reach_allowed file passed) (step_few file passed step) i)
 
 -- ---- `deck_turn`
+pub turn_here : {file blocked : List ℕ} {table : List ℤ} {seat : Seat} {array : List ℕ} {d s : ℕ} → WalkReady file blocked table seat array → TurnIn file d s
+    → TurnReady file table seat.place d s array
+turn_here ready turn =
+    record { file_ready = ready.search_ready.file_ready; place_within = ready.search_ready.place_within; turn = turn; sifted = ready.sifted }
+
 module _ {file : List ℕ} {table : List ℤ} {p : Vec2} {d s : ℕ} {array : List ℕ} (ready : TurnReady file table p d s array) where
   file_passed : first_no file ≡ Ok tt
   file_passed = ready.file_ready.file_passed

@@ -1,3 +1,4 @@
 pub mod Sees
 pub mod Walk
 pub mod Lists
+pub mod Ready

@@ -1,4 +1,4 @@
-// One walk over the candidates of a step on a ship file, in their order (document 01, section 5). Who walks decides what becomes of them:
+// One walk over the candidates of a step on a ship ship, in their order (document 01, section 5). Who walks decides what becomes of them:
 // the run chooses one, a call writes them. Before its first step the decks are sifted, and every step looks at the lists that were kept.
 #![tactic(auto)]
 
@@ -6,15 +6,27 @@ ghost use Rattle.std.specs.Prelude.{◌≡◌, ◌≤◌, ◌<◌, length};
 ghost use Rattle.ship.specs.Layout.{decks_in, steps_in};
 ghost use Rattle.ship.specs.Decode.{decode};
 ghost use Rattle.survey.specs.Search.{turn};
-ghost use Rattle.walking.specs.Sees.{sample_on, shown_by, seen_by, FileReady, CandidateIn};
-ghost use Rattle.walking.specs.Lists.{Sifted, WalkReady, TurnReady, ListsReady, ListsBelow, DeckListed};
+ghost use Rattle.walking.specs.Sees.{sample_on, shown_by, seen_by, TurnIn, CandidateIn};
+ghost use Rattle.walking.specs.Lists.{Sifted, WalkReady, ListsReady, ListsBelow, DeckListed};
 ghost use Rattle.walking.specs.Walk.{passing_after, WalkedFrom, WalkedStep, WalkedAfter};
+ghost use Rattle.walking.specs.Ready.{walk_ready_prop};
 
-use decks::Deck;
+use decks::Ship;
 use geometry::{Height, Vec2};
 use hits::{Candidate, Hit};
 use keeping::{Kept, LISTS_SIZE};
 use survey::Seat;
+
+// The search of a seat: the ship, the blocked decks, the table of directions, the seat, and the decks' kept lists, which serve each of its steps.
+#[derive(Clone, Copy)]
+pub struct Search<'a> {
+    pub ship: &'a Ship<'a>,
+    pub blocked: &'a [u8],
+    pub table: &'a [i32; 2432],
+    pub seat: Seat,
+    pub kept: &'a [u32],
+    pub ghost ready: { WalkReady ship.now blocked.now table.now seat kept.now } by { walk_ready_prop ship.now blocked.now table.now seat kept.now },
+}
 
 // Where a walk came to: a candidate, or the end of the step. With it, how many samples the turns on the way took. No `Option`, since the end has
 // that number too.
@@ -25,188 +37,160 @@ pub enum Next {
 }
 
 // The polygons of deck d that a sample of the search around p may reach, in a list whose numbers stand from `at` on.
-fn reached_on(file: &[u8], p: Vec2, d: usize, kept: &mut [u32], at: usize) -> Kept
-    requires { ListsBelow file.now p kept.old at d × (d < decks_in file.now) }
-    ensures { DeckListed file.now p d at kept.old kept.new result }
+fn reached_on(ship: &Ship<'_>, p: Vec2, d: usize, kept: &mut [u32], at: usize) -> Kept
+    requires { ListsBelow ship.now p kept.old at d × (d < decks_in ship.now) }
+    ensures { DeckListed ship.now p d at kept.old kept.new result }
 {
-    let deck = Deck::of(file, d);
+    let deck = ship.deck(d);
     let around = p - deck.offset();
-    let last = decks::steps(file) - 1;
-    sifting::sift_deck(&deck, around, decks::reach(file), last, kept, at)
+    let last = ship.steps() - 1;
+    sifting::sift_deck(&deck, around, ship.reach(), last, kept, at)
 }
 
 // Deck d's list. A deck that is not open is not gone over.
-fn deck_list(file: &[u8], blocked: &[u8], seat: Seat, d: usize, kept: &mut [u32], at: usize) -> Kept
-    requires { ListsBelow file.now seat.place kept.old at d × ((d < decks_in file.now) × (length blocked.now ≡ 32)) }
-    ensures { DeckListed file.now seat.place d at kept.old kept.new result }
+fn deck_list(
+    ship: &Ship<'_>,
+    blocked: &[u8],
+    seat: Seat,
+    d: usize,
+    kept: &mut [u32],
+    at: usize,
+) -> Kept
+    requires { ListsBelow ship.now seat.place kept.old at d × ((d < decks_in ship.now) × (length blocked.now ≡ 32)) }
+    ensures { DeckListed ship.now seat.place d at kept.old kept.new result }
 {
     let choice = seat.choice;
     if survey::is_open(blocked, choice, d) {
-        return reached_on(file, seat.place, d, kept, at);
+        return reached_on(ship, seat.place, d, kept, at);
     }
     keeping::every_polygon()
 }
 
 // Each deck's list, before the first step of a seat's search.
-pub fn sift_decks(file: &[u8], blocked: &[u8], seat: Seat, kept: &mut [u32])
-    requires { ListsReady file.now seat.place kept.old × (length blocked.now ≡ 32) }
-    ensures { Sifted file.now seat.place kept.new }
+pub fn sift_decks(ship: &Ship<'_>, blocked: &[u8], seat: Seat, kept: &mut [u32])
+    requires { ListsReady ship.now seat.place kept.old × (length blocked.now ≡ 32) }
+    ensures { Sifted ship.now seat.place kept.new }
 {
-    let decks = decks::deck_count(file);
+    let decks = ship.deck_count();
     let mut at = LISTS_SIZE;
     'decks: for d in 0..decks {
-        let list = deck_list(file, blocked, seat, d, kept, at);
+        let list = deck_list(ship, blocked, seat, d, kept, at);
         keeping::put_list(kept, d, list);
         at += list.count;
     }
 }
 
-// Deck d's turn in step s, around p.
-fn deck_turn(
-    file: &[u8],
-    table: &[i32; 2432],
-    p: Vec2,
-    d: usize,
-    s: usize,
-    kept: &[u32],
-    near: &mut [u32],
-) -> Option<Hit>
-    requires { TurnReady file.now table.now p d s kept.now }
-    ensures { result ≡ turn (shown_by file.now p) s d }
-{
-    let deck = Deck::of(file, d);
-    let around = p - deck.offset();
-    let list = keeping::list_of(kept, d);
-    sifting::turn(
-        &deck,
-        table,
-        around,
-        decks::reach(file),
-        s,
-        kept,
-        list,
-        near,
-    )
-}
-
-// The candidate's sample, in the coordinates of its deck.
-fn sample_on(file: &[u8], table: &[i32; 2432], p: Vec2, c: Candidate) -> Vec2
-    requires { FileReady file.now table.now × CandidateIn file.now c }
-    ensures { result ≡ sample_on (decode file.now) p c }
-{
-    let around = p - Deck::of(file, c.deck).offset();
-    ring::sample(table, around, decks::reach(file), c.step, c.sample)
-}
-
-// Where the candidate lies.
-pub fn place_of(file: &[u8], table: &[i32; 2432], p: Vec2, c: Candidate) -> Vec2
-    requires { FileReady file.now table.now × CandidateIn file.now c }
-    ensures { result ≡ (shown_by file.now p).place c }
-{
-    sample_on(file, table, p, c) + Deck::of(file, c.deck).offset()
-}
-
-// The height there.
-#[tactic(auto, using(crate::proofs::ShownLaws::shows))]
-pub fn height_of(file: &[u8], table: &[i32; 2432], p: Vec2, c: Candidate) -> Height
-    requires { FileReady file.now table.now × CandidateIn file.now c }
-    ensures { result ≡ (shown_by file.now p).height c }
-{
-    let deck = Deck::of(file, c.deck);
-    search::height_at(&deck, c.polygon, place_of(file, table, p, c))
-}
-
-// The next polygon after c's that passes at its sample.
-fn next_passing(
-    file: &[u8],
-    table: &[i32; 2432],
-    p: Vec2,
-    c: Candidate,
-    kept: &[u32],
-) -> Option<Hit>
-    requires { TurnReady file.now table.now p c.deck c.step kept.now × CandidateIn file.now c }
-    ensures { result ≡ passing_after (shown_by file.now p) c }
-{
-    let deck = Deck::of(file, c.deck);
-    let q = sample_on(file, table, p, c);
-    let list = keeping::list_of(kept, c.deck);
-    keeping::next_hit(&deck, q, c.sample, c.polygon + 1, kept, list)
-}
-
-// The first candidate of step s on the decks from d on.
-fn turns_from(
-    file: &[u8],
-    blocked: &[u8],
-    table: &[i32; 2432],
-    seat: Seat,
-    s: usize,
-    d: usize,
-    kept: &[u32],
-    near: &mut [u32],
-) -> Next
-    requires { WalkReady file.now blocked.now table.now seat kept.now
-        × ((s < steps_in file.now) × (d ≤ decks_in file.now)) }
-    ensures { WalkedFrom file.now (seen_by file.now blocked.now seat) s d result }
-{
-    let decks = decks::deck_count(file);
-    let choice = seat.choice;
-    let mut tried: usize = 0;
-    'decks: for deck in d..decks {
-        if !survey::is_open(blocked, choice, deck) {
-            continue;
-        }
-        let hit = deck_turn(file, table, seat.place, deck, s, kept, near);
-        tried += hits::tried(s, hit);
-        if let Some(Hit { sample, polygon }) = hit {
-            let c = Candidate {
-                step: s,
-                deck,
-                sample,
-                polygon,
-            };
-            return Next::Reached(c, tried);
-        }
+impl<'a> Search<'a> {
+    // Deck d's turn in step s.
+    fn deck_turn(&self, d: usize, s: usize, near: &mut [u32]) -> Option<Hit>
+        requires { TurnIn self.now.ship.now d s }
+        ensures { result ≡ turn (shown_by self.now.ship.now self.now.seat.place) s d }
+    {
+        let deck = self.ship.deck(d);
+        let around = self.seat.place - deck.offset();
+        let list = keeping::list_of(self.kept, d);
+        sifting::turn(
+            &deck,
+            self.table,
+            around,
+            self.ship.reach(),
+            s,
+            self.kept,
+            list,
+            near,
+        )
     }
-    Next::Ended(tried)
-}
 
-// The first candidate of step s.
-pub fn first(
-    file: &[u8],
-    blocked: &[u8],
-    table: &[i32; 2432],
-    seat: Seat,
-    s: usize,
-    kept: &[u32],
-    near: &mut [u32],
-) -> Next
-    requires { WalkReady file.now blocked.now table.now seat kept.now × (s < steps_in file.now) }
-    ensures { WalkedStep file.now (seen_by file.now blocked.now seat) s result }
-{
-    turns_from(file, blocked, table, seat, s, 0, kept, near)
-}
+    // The candidate's sample, in the coordinates of its deck.
+    fn sample_on(&self, c: Candidate) -> Vec2
+        requires { CandidateIn self.now.ship.now c }
+        ensures { result ≡ sample_on (decode self.now.ship.now) self.now.seat.place c }
+    {
+        let around = self.seat.place - self.ship.deck(c.deck).offset();
+        ring::sample(self.table, around, self.ship.reach(), c.step, c.sample)
+    }
 
-// The candidate that comes after c in its step.
-pub fn after(
-    file: &[u8],
-    blocked: &[u8],
-    table: &[i32; 2432],
-    seat: Seat,
-    c: Candidate,
-    kept: &[u32],
-    near: &mut [u32],
-) -> Next
-    requires { WalkReady file.now blocked.now table.now seat kept.now × CandidateIn file.now c }
-    ensures { WalkedAfter file.now (seen_by file.now blocked.now seat) c result }
-{
-    match next_passing(file, table, seat.place, c, kept) {
-        Some(hit) => {
-            let next = Candidate {
-                polygon: hit.polygon,
-                ..c
-            };
-            Next::Reached(next, 0)
+    // Where the candidate lies.
+    pub fn place_of(&self, c: Candidate) -> Vec2
+        requires { CandidateIn self.now.ship.now c }
+        ensures { result ≡ (shown_by self.now.ship.now self.now.seat.place).place c }
+    {
+        self.sample_on(c) + self.ship.deck(c.deck).offset()
+    }
+
+    // The height there.
+    #[tactic(auto, using(crate::proofs::ShownLaws::shows))]
+    pub fn height_of(&self, c: Candidate) -> Height
+        requires { CandidateIn self.now.ship.now c }
+        ensures { result ≡ (shown_by self.now.ship.now self.now.seat.place).height c }
+    {
+        let deck = self.ship.deck(c.deck);
+        search::height_at(&deck, c.polygon, self.place_of(c))
+    }
+
+    // The next polygon after c's that passes at its sample.
+    fn next_passing(&self, c: Candidate) -> Option<Hit>
+        requires { CandidateIn self.now.ship.now c }
+        ensures { result ≡ passing_after (shown_by self.now.ship.now self.now.seat.place) c }
+    {
+        let deck = self.ship.deck(c.deck);
+        let q = self.sample_on(c);
+        let list = keeping::list_of(self.kept, c.deck);
+        keeping::next_hit(&deck, q, c.sample, c.polygon + 1, self.kept, list)
+    }
+
+    // The first candidate of step s on the decks from d on.
+    fn turns_from(&self, s: usize, d: usize, near: &mut [u32]) -> Next
+        requires { (s < steps_in self.now.ship.now) × (d ≤ decks_in self.now.ship.now) }
+        ensures { WalkedFrom self.now.ship.now
+            (seen_by self.now.ship.now self.now.blocked.now self.now.seat) s d result }
+    {
+        let decks = self.ship.deck_count();
+        let choice = self.seat.choice;
+        let mut tried: usize = 0;
+        'decks: for deck in d..decks {
+            if !survey::is_open(self.blocked, choice, deck) {
+                continue;
+            }
+            let hit = self.deck_turn(deck, s, near);
+            tried += hits::tried(s, hit);
+            if let Some(Hit { sample, polygon }) = hit {
+                let c = Candidate {
+                    step: s,
+                    deck,
+                    sample,
+                    polygon,
+                };
+                return Next::Reached(c, tried);
+            }
         }
-        None => turns_from(file, blocked, table, seat, c.step, c.deck + 1, kept, near),
+        Next::Ended(tried)
+    }
+
+    // The first candidate of step s.
+    pub fn first(&self, s: usize, near: &mut [u32]) -> Next
+        requires { s < steps_in self.now.ship.now }
+        ensures { WalkedStep self.now.ship.now
+            (seen_by self.now.ship.now self.now.blocked.now self.now.seat) s result }
+    {
+        self.turns_from(s, 0, near)
+    }
+
+    // The candidate that comes after c in its step.
+    pub fn after(&self, c: Candidate, near: &mut [u32]) -> Next
+        requires { CandidateIn self.now.ship.now c }
+        ensures { WalkedAfter self.now.ship.now
+            (seen_by self.now.ship.now self.now.blocked.now self.now.seat) c result }
+    {
+        match self.next_passing(c) {
+            Some(hit) => {
+                let next = Candidate {
+                    polygon: hit.polygon,
+                    ..c
+                };
+                Next::Reached(next, 0)
+            }
+            None => self.turns_from(c.step, c.deck + 1, near),
+        }
     }
 }

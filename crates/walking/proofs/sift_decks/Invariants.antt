@@ -7,4 +7,4 @@ use Rattle.walking.proofs.sift_decks.Given as goal
 
 abbrev pub invariant-decks : goal.invariant-decks
 invariant-decks l =
-    (l.d ≤ l.decks) × ((length l.kept ≡ length l.initial.kept) × ListsBelow l.file l.seat.place l.kept l.at l.d)
+    (l.d ≤ l.decks) × ((length l.kept ≡ length l.initial.kept) × ListsBelow l.ship l.seat.place l.kept l.at l.d)

@@ -1,6 +1,6 @@
 use borrow.Author.Rules.{rules}
 use Rattle.walking.proofs.Walks.{turning}
-use Rattle.walking.proofs.turns_from.Goals as goal
+use Rattle.walking.proofs.Search.turns_from.Goals as goal
 
 pub tried-tried-requires : goal.tried-tried-requires
 tried-tried-requires c = search (turning, rules)

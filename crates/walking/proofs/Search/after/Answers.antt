@@ -1,7 +1,7 @@
 -- `after` meets its contract.
 use borrow.Author.Rules.{rules}
 use Rattle.walking.proofs.Walks.{afters}
-use Rattle.walking.proofs.after.Goals as goal
+use Rattle.walking.proofs.Search.after.Goals as goal
 
 pub overflow_add-c : goal.overflow_add-c
 overflow_add-c c = search (afters, rules)

@@ -2,8 +2,8 @@
 use mathlib.Core.Path.{◌≡◌}
 use lib.ListN.{length}
 use Rattle.walking.proofs.Walks.{Turning}
-use Rattle.walking.proofs.turns_from.Given as goal
+use Rattle.walking.proofs.Search.turns_from.Given as goal
 
 abbrev pub invariant-decks : goal.invariant-decks
 invariant-decks l =
-    (length l.near ≡ length l.initial.near) × Turning l.file l.blocked l.seat l.s l.d l.tried l.deck
+    (length l.near ≡ length l.initial.near) × Turning l.self.ship.now l.self.blocked.now l.self.seat l.s l.d l.tried l.deck
