@@ -2,3 +2,4 @@ pub mod Sees
 pub mod Walk
 pub mod Lists
 pub mod Ready
+pub mod Asked

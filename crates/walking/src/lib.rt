@@ -5,7 +5,7 @@
 ghost use Rattle.std.specs.Prelude.{◌≡◌, ◌≤◌, ◌<◌, length};
 ghost use Rattle.ship.specs.Layout.{decks_in, steps_in};
 ghost use Rattle.ship.specs.Decode.{decode};
-ghost use Rattle.survey.specs.Search.{turn};
+ghost use Rattle.survey.specs.Search.{turn, candidates};
 ghost use Rattle.walking.specs.Sees.{sample_on, shown_by, seen_by, TurnIn, CandidateIn};
 ghost use Rattle.walking.specs.Lists.{Sifted, WalkReady, ListsReady, ListsBelow, DeckListed};
 ghost use Rattle.walking.specs.Walk.{passing_after, WalkedFrom, WalkedStep, WalkedAfter};
@@ -26,6 +26,17 @@ pub struct Search<'a> {
     pub seat: Seat,
     pub kept: &'a [u32],
     pub ghost ready: { WalkReady ship.now blocked.now table.now seat kept.now } by { walk_ready_prop ship.now blocked.now table.now seat kept.now },
+}
+
+// A step of a search, and how many candidates it has.
+#[derive(Clone, Copy)]
+pub struct Step<'a> {
+    pub search: &'a Search<'a>,
+    pub number: usize,
+    pub count: usize,
+    pub ghost there: { number < steps_in search.now.ship.now },
+    pub ghost counted: { count ≡ length
+        (candidates (seen_by search.now.ship.now search.now.blocked.now search.now.seat) number) },
 }
 
 // Where a walk came to: a candidate, or the end of the step. With it, how many samples the turns on the way took. No `Option`, since the end has
@@ -81,6 +92,8 @@ pub fn sift_decks(ship: &Ship<'_>, blocked: &[u8], seat: Seat, kept: &mut [u32])
 }
 
 impl<'a> Search<'a> {
+    ghost use Rattle.walking.specs.Asked.{seen};
+
     // Deck d's turn in step s.
     fn deck_turn(&self, d: usize, s: usize, near: &mut [u32]) -> Option<Hit>
         requires { TurnIn self.now.ship.now d s }
@@ -143,7 +156,7 @@ impl<'a> Search<'a> {
     fn turns_from(&self, s: usize, d: usize, near: &mut [u32]) -> Next
         requires { (s < steps_in self.now.ship.now) × (d ≤ decks_in self.now.ship.now) }
         ensures { WalkedFrom self.now.ship.now
-            (seen_by self.now.ship.now self.now.blocked.now self.now.seat) s d result }
+            (seen self.now) s d result }
     {
         let decks = self.ship.deck_count();
         let choice = self.seat.choice;
@@ -171,7 +184,7 @@ impl<'a> Search<'a> {
     pub fn first(&self, s: usize, near: &mut [u32]) -> Next
         requires { s < steps_in self.now.ship.now }
         ensures { WalkedStep self.now.ship.now
-            (seen_by self.now.ship.now self.now.blocked.now self.now.seat) s result }
+            (seen self.now) s result }
     {
         self.turns_from(s, 0, near)
     }
@@ -180,7 +193,7 @@ impl<'a> Search<'a> {
     pub fn after(&self, c: Candidate, near: &mut [u32]) -> Next
         requires { CandidateIn self.now.ship.now c }
         ensures { WalkedAfter self.now.ship.now
-            (seen_by self.now.ship.now self.now.blocked.now self.now.seat) c result }
+            (seen self.now) c result }
     {
         match self.next_passing(c) {
             Some(hit) => {
