@@ -6,18 +6,17 @@ ghost use Rattle.geometry.specs.Bounds.{HeightWithin};
 ghost use Rattle.records.specs.Record.{unplaced_record};
 ghost use Rattle.ship.specs.Layout.{steps_in};
 ghost use Rattle.ship.specs.Decode.{decode};
-ghost use Rattle.keeping.specs.Lists.{ListsRoom};
 ghost use Rattle.survey.specs.Record.{height_kind, height_bits, record_at_place};
 ghost use Rattle.survey.specs.Search.{seat_record};
-ghost use Rattle.walking.specs.Sees.{seen_by, SearchReady, CandidateWithin};
-ghost use Rattle.walking.specs.Lists.{Sifted, WalkReady};
+ghost use Rattle.walking.specs.Sees.{CandidateWithin};
+ghost use Rattle.walking.specs.Asked.{seen};
 ghost use Rattle.placing.specs.Tally.{choose_with, take_with, step_tally, TallyWithin, CountsWithin};
 
 use geometry::{Height, Vec2};
 use hits::Candidate;
 use records::SeatRecord;
-use survey::{Seat, Wish};
-use walking::Next;
+use survey::Wish;
+use walking::{Next, Search};
 
 // A candidate, where it lies, and the height there.
 #[derive(Clone, Copy, Debug, PartialEq)]
@@ -64,27 +63,16 @@ fn take(wish: Wish, t: Tally, tried: usize, next: Choice) -> Tally
 }
 
 // Step s on every open deck, after so many samples tried before it.
-fn take_step(
-    file: &[u8],
-    blocked: &[u8],
-    table: &[i32; 2432],
-    seat: Seat,
-    s: usize,
-    tried: usize,
-    kept: &[u32],
-    near: &mut [u32],
-) -> Tally
-    requires { WalkReady file.now blocked.now table.now seat kept.now
-        × ((s < steps_in file.now) × (tried ≤ 38656 * s)) }
-    ensures { (result ≡ step_tally (seen_by file.now blocked.now seat) s tried) × TallyWithin (s + 1) result }
+fn take_step(search: &Search<'_>, s: usize, tried: usize, near: &mut [u32]) -> Tally
+    requires { (s < steps_in search.now.ship.now) × (tried ≤ 38656 * s) }
+    ensures { (result ≡ step_tally (seen search.now) s tried) × TallyWithin (s + 1) result }
 {
-    let wish = seat.wish;
     let mut tally = Tally {
         tried,
         candidates: 0,
         best: None,
     };
-    let mut next = walking::first(file, blocked, table, seat, s, kept, near);
+    let mut next = search.first(s, near);
     // A loop: a walk is lent its arrays at each step, so it is no iterator.
     'candidates: loop {
         match next {
@@ -97,11 +85,11 @@ fn take_step(
             Next::Reached(candidate, n) => {
                 let choice = Choice {
                     candidate,
-                    place: walking::place_of(file, table, seat.place, candidate),
-                    height: walking::height_of(file, table, seat.place, candidate),
+                    place: search.place_of(candidate),
+                    height: search.height_of(candidate),
                 };
-                tally = take(wish, tally, n, choice);
-                next = walking::after(file, blocked, table, seat, candidate, kept, near);
+                tally = take(search.seat.wish, tally, n, choice);
+                next = search.after(candidate, near);
             }
         }
     }
@@ -157,44 +145,19 @@ fn unplaced_record(tried: usize) -> SeatRecord
     }
 }
 
-// The steps of a seat's search over its kept lists: the first with any hit is the last.
-fn search_steps(
-    file: &[u8],
-    blocked: &[u8],
-    table: &[i32; 2432],
-    seat: Seat,
-    kept: &[u32],
-    near: &mut [u32],
-) -> SeatRecord
-    requires { WalkReady file.now blocked.now table.now seat kept.now }
-    ensures { result ≡ seat_record (seen_by file.now blocked.now seat) (decode file.now).steps }
+// The search of a seat, step by step over its kept lists: the first step with any hit is the last. What `near` holds is of no use to anybody
+// afterwards.
+pub fn place_seat(search: &Search<'_>, near: &mut [u32]) -> SeatRecord
+    ensures { result ≡ seat_record (seen search.now) (decode search.now.ship.now).steps }
 {
-    let steps = decks::steps(file);
+    let steps = search.ship.steps();
     let mut tried: usize = 0;
     'steps: for s in 0..steps {
-        let tally = take_step(file, blocked, table, seat, s, tried, kept, near);
+        let tally = take_step(search, s, tried, near);
         if let Some(choice) = tally.best {
             return placed_record(choice, tally.tried, tally.candidates);
         }
         tried = tally.tried;
     }
     unplaced_record(tried)
-}
-
-// The search of a seat. Polygons that no sample of it can reach are sifted out first; the lists that are left in `kept` serve a later walk over its
-// last step. What `near` holds is of no use to anybody afterwards.
-pub fn place_seat(
-    file: &[u8],
-    blocked: &[u8],
-    table: &[i32; 2432],
-    seat: Seat,
-    kept: &mut [u32],
-    near: &mut [u32],
-) -> SeatRecord
-    requires { SearchReady file.now blocked.now table.now seat × ListsRoom kept.old }
-    ensures { (result ≡ seat_record (seen_by file.now blocked.now seat) (decode file.now).steps)
-        × Sifted file.now seat.place kept.new }
-{
-    walking::sift_decks(file, blocked, seat, kept);
-    search_steps(file, blocked, table, seat, kept, near)
 }
