@@ -1,11 +1,10 @@
 -- Document 01, section 8, `candidate_polygons`: 'a reaches b if an edge of a has packed b in both ends' N lists'.
-use Rattle.std.specs.Prelude.{ℕ, ◌+◌, ◌<◌, ◌≡◌, Bool, ◌&&◌, cond, List, eqb, length, get_or, Ok}
+use Rattle.std.specs.Prelude.{ℕ, ◌+◌, ◌<◌, Bool, ◌&&◌, cond, List, eqb, length, get_or}
 use Rattle.words.specs.Rows.{some, has}
 use Rattle.ship.specs.Layout.{decks_in}
 use Rattle.ship.specs.Decode.{decode}
 use Rattle.ship.specs.Model.{Deck, Ship, neighbours_of, corners_of, deck_of}
 use Rattle.ship.specs.Packed.{packed_deck, packed_polygon}
-use Rattle.ship.specs.Questions.{first_no}
 
 -- whether the list of polygon k's vertex j has b. The entries are taken as they are: a plain number is no packed one, unless of deck 0.
 abbrev pub corner_has : Deck → ℕ → ℕ → ℕ → Bool
@@ -31,5 +30,4 @@ pub record PolygonThere (file : List ℕ) (a : ℕ) : Type 0 where
 
 -- what `touches` needs
 pub record TouchReady (file : List ℕ) (a : ℕ) : Type 0 where
-  pub passed : first_no file ≡ Ok tt
   pub there : PolygonThere file a

@@ -7,7 +7,7 @@ ghost use Rattle.ship.specs.Model.{neighbours_of, corners_of};
 ghost use Rattle.ship.specs.Decode.{decode};
 ghost use Rattle.touching.specs.Touching.{corner_has, touches_on, touches, TouchReady};
 
-use decks::Deck;
+use decks::{Deck, Ship};
 
 // Whether b stands in the list of vertex v.
 #[tactic(auto, unfolding(words::specs::Rows::has, words::specs::Rows::some))]
@@ -46,10 +46,10 @@ fn touches_on(deck: &Deck<'_>, k: usize, b: u32) -> bool
 
 // Whether packed a touches packed b.
 #[tactic(auto, using(crate::proofs::EdgeLoop::touching))]
-pub fn touches(file: &[u8], a: u32, b: u32) -> bool
-    requires { TouchReady file.now a }
-    ensures { result ≡ touches (decode file.now) a b }
+pub fn touches(ship: &Ship<'_>, a: u32, b: u32) -> bool
+    requires { TouchReady ship.now a }
+    ensures { result ≡ touches (decode ship.now) a b }
 {
-    let deck = Deck::of(file, decks::packed_deck(a));
+    let deck = ship.deck(decks::packed_deck(a));
     touches_on(&deck, decks::packed_polygon(a), b)
 }
