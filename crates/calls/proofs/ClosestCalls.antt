@@ -12,7 +12,6 @@ use Rattle.answers.specs.Questions.{question20}
 use Rattle.answers.specs.Replies.{Replied, Answer}
 use Rattle.answers.proofs.Asking.{said_no, said_yes, q20_short, q20_fits}
 use Rattle.answers.proofs.Replying.{replied_refused, replied_short, replied_written, replied_none}
-use Rattle.answers.specs.Checks.{Check}
 use Rattle.std.specs.Prelude.{Ok, Err}
 use Rattle.answers.specs.declared.Refusal.TheVariants.{NoRoom}
 use Rattle.records.specs.declared.SeatRecord.{SeatRecord}
@@ -56,9 +55,9 @@ module _ (file : List ℕ) (p : Vec2) (deck : ℕ) (blocked : List ℕ) {seat : 
   unfolding decode
   record_is = placed ∙ rw is
 
-  module _ {r : Check} (said : r ≡ query_check file p deck blocked) (passed : r ≡ Ok tt) where
+  module _ (passed : query_check file p deck blocked ≡ Ok tt) where
     file_passed : first_no file ≡ Ok tt
-    file_passed = query_passed file p deck blocked said passed
+    file_passed = query_passed file p deck blocked passed
 
     module _ (none : u ≡ true) where
       pub no_points : closest_points file p deck blocked ≡ []
@@ -72,10 +71,10 @@ module _ (file : List ℕ) (p : Vec2) (deck : ℕ) (blocked : List ℕ) {seat : 
       no_point = rw no_points
 
       pub points_none : {out : List ℕ} → Replied (closest_points_reply file p deck blocked) out out (Ok 0)
-      points_none = replied_none _ _ said passed no_points
+      points_none = replied_none _ _ refl passed no_points
 
       pub point_none : {out : List ℕ} → Replied (closest_point_reply file p deck blocked) out out (Ok 0)
-      point_none = replied_none _ _ said passed no_point
+      point_none = replied_none _ _ refl passed no_point
 
     pub step_below : u ≡ false → found.step < steps_in file
     step_below some = (recorded (seen_by file blocked (asked_at p deck)) (steps_in file) record_is (sym asked ∙ some)).below
@@ -127,23 +126,23 @@ module _ (file : List ℕ) (p : Vec2) (deck : ℕ) (blocked : List ℕ) {seat : 
 -- ---- the replies
 pub points_replied : (file : List ℕ) (p : Vec2) (deck : ℕ) (blocked : List ℕ) {seat : Seat} {found : SeatRecord} {u : Bool} → seat ≡ asked_at p deck
     → found ≡ seat_record (seen_by file blocked seat) (decode file).steps → u ≡ is_unplaced found → u ≡ false
-    → {r : Check} → r ≡ query_check file p deck blocked → r ≡ Ok tt → {out out' : List ℕ} {a : Answer}
+    → query_check file p deck blocked ≡ Ok tt → {out out' : List ℕ} {a : Answer}
     → Replied (step_reply (seen_by file blocked seat) found.step) out out' a → Replied (closest_points_reply file p deck blocked) out out' a
-points_replied file p deck blocked is placed asked some said passed h =
+points_replied file p deck blocked is placed asked some passed h =
     let at = ap (λ (s : Seat). s.place) is in
-    rw (sym said ∙ passed, points_are file p deck blocked is placed asked some, ← at) h
+    rw (passed, points_are file p deck blocked is placed asked some, ← at) h
 
 module _ (file : List ℕ) (p : Vec2) (deck : ℕ) (blocked : List ℕ) {seat : Seat} {found : SeatRecord} {u : Bool} (is : seat ≡ asked_at p deck)
     (placed : found ≡ seat_record (seen_by file blocked seat) (decode file).steps) (asked : u ≡ is_unplaced found) (some : u ≡ false)
-    {r : Check} (said : r ≡ query_check file p deck blocked) (passed : r ≡ Ok tt) (out : List ℕ) {fits : Bool} where
+    (passed : query_check file p deck blocked ≡ Ok tt) (out : List ℕ) {fits : Bool} where
   module _ (room : fits ≡ question20 entry_size (length out)) where
     pub point_refused : not fits ≡ true → Replied (closest_point_reply file p deck blocked) out out (Err NoRoom)
-    point_refused no_room = replied_short said passed (point_short file p deck blocked is placed asked some out room no_room)
+    point_refused no_room = replied_short refl passed (point_short file p deck blocked is placed asked some out room no_room)
 
     pub point_replied : not fits ≡ false → {out' : List ℕ} → out' ≡ splice out 0 (words_of (found.polygon ∷ found.x ∷ found.y ∷ []))
         → Replied (closest_point_reply file p deck blocked) out out' (Ok 1)
     point_replied has_room o =
-        replied_written said passed (point_fits file p deck blocked is placed asked some out room has_room) (point_count file p deck blocked is placed asked some)
+        replied_written refl passed (point_fits file p deck blocked is placed asked some out room has_room) (point_count file p deck blocked is placed asked some)
         (point_written file p deck blocked is placed asked some out o)
 
 pub ruleset all_points = (query_ready, replied_refused, points_none, step_below, points_count, points_replied)

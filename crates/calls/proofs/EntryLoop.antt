@@ -26,9 +26,10 @@ use Rattle.survey.specs.Search.{candidates}
 use Rattle.walking.specs.declared.Next.{Next}
 use Rattle.walking.specs.declared.Next.TheVariants.{Reached, Ended}
 use Rattle.walking.specs.Sees.{shown_by, seen_by}
+use Rattle.walking.specs.Lists.{WalkReady}
 use Rattle.walking.specs.Walk.{WalkedStep, WalkedAfter}
 use Rattle.walking.proofs.Passing.{nowhere, Passing, passing_all, passing_ended, passing_below, passing_here, passing_within, passing_more, passing}
-use Rattle.calls.specs.Closest.{entry_size, entry_bytes, candidate_bytes, StepFits, StepPut, StepCount, step_reply, PutReady}
+use Rattle.calls.specs.Closest.{entry_size, entry_bytes, candidate_bytes, StepFits, StepPut, StepCount, step_reply}
 
 -- ---- `put_candidate`
 pub entry_is : (polygon : ℕ) (place : Vec2) (out : List ℕ) (at : ℕ) {out' : List ℕ}
@@ -52,9 +53,9 @@ pub record Putting (file blocked : List ℕ) (seat : Seat) (s : ℕ) (out₀ out
   pub room : StepFits (seen_by file blocked seat) s out₀
   pub rest : Rest (candidate_bytes (shown_by file seat.place)) entry_size nowhere out₀ 0 (candidates (seen_by file blocked seat) s) out n
 
-pub putting_all : {file blocked : List ℕ} {table : List ℤ} {seat : Seat} {s : ℕ} {out array : List ℕ} {next : Next} → PutReady file blocked table seat s out array
-    → WalkedStep file (seen_by file blocked seat) s next → Putting file blocked seat s out out 0 next
-putting_all ready w = record { passes = passing_all ready.walk_ready w; room = ready.fits; rest = rest_all }
+pub putting_all : {file blocked : List ℕ} {table : List ℤ} {seat : Seat} {s count : ℕ} {out array : List ℕ} {next : Next} → WalkReady file blocked table seat array
+    → StepCount (seen_by file blocked seat) s count → entry_size * count ≤ length out → WalkedStep file (seen_by file blocked seat) s next → Putting file blocked seat s out out 0 next
+putting_all ready counts fits w = record { passes = passing_all ready w; room = rw (← counts) fits; rest = rest_all }
 
 module _ {file blocked : List ℕ} {seat : Seat} {s : ℕ} {out₀ out : List ℕ} {n : ℕ} {next : Next} (h : Putting file blocked seat s out₀ out n next) where
   pub putting_long : length out ≡ length out₀
@@ -97,8 +98,8 @@ module _ (file blocked : List ℕ) (seat : Seat) (s : ℕ) {count : ℕ} (counte
   step_refused no_room = replied_short refl refl (room_short (step_reply (seen_by file blocked seat) s) out entry_size count step_long room no_room)
 
   module _ (has_room : not fits ≡ false) where
-    pub step_fits : StepFits (seen_by file blocked seat) s out
-    step_fits = rw (← counted) (q20_fits (entry_size * count) (length out) (said_yes room has_room))
+    pub step_fits : entry_size * count ≤ length out
+    step_fits = q20_fits (entry_size * count) (length out) (said_yes room has_room)
 
     pub step_written : {out' : List ℕ} → StepPut (seen_by file blocked seat) s out out' → Replied (step_reply (seen_by file blocked seat) s) out out' (Ok count)
     step_written o =

@@ -14,10 +14,13 @@ use Rattle.geometry.specs.declared.Height.TheVariants.{Known, None}
 use Rattle.geometry.specs.Bounds.{PointWithin, HeightWithin}
 use Rattle.geometry.proofs.Bounds.{widen}
 use Rattle.words.specs.Bytes.{all_ones, bytes4, joined, splice, put_f32}
-use Rattle.answers.specs.Checks.{ask, after, Check}
+use Rattle.answers.specs.Checks.{ask, Check}
 use Rattle.answers.proofs.Asking.{asking, asked_yes, both_passed}
 use Rattle.answers.proofs.Replying.{replied_refused, replied_short, replied_written, replied_none}
-use Rattle.std.specs.Prelude.{Ok}
+use Rattle.std.specs.Prelude.{Result, Ok, Err}
+use Rattle.answers.specs.declared.Refusal.{Refusal}
+use Rattle.decks.specs.Opened.{opened}
+use Rattle.decks.proofs.Opening.{opens_err, opens_ok, chain_refused, chain_opened}
 use Rattle.answers.specs.declared.Refusal.TheVariants.{CallFloatOutOfRange, NoSuchDeck, NoSuchPolygon}
 use Rattle.ship.specs.Layout.{decks_in}
 use Rattle.ship.specs.Decode.{decode}
@@ -33,10 +36,25 @@ use Rattle.calls.specs.HeightCall.{height_call, height_entry, question17_height,
 use Rattle.calls.proofs.Queries.{size_of_place}
 
 -- ---- `height_check`
-pub height_asked_is : (file : List ℕ) (p : Vec2) (polygon : ℕ) {v : Check}
-    → v ≡ after (first_no file) (ask (question16 p) CallFloatOutOfRange (ask (question17_height file polygon) NoSuchDeck (ask (question18 file polygon) NoSuchPolygon (Ok tt)))) → v ≡ height_check file p polygon
-unfolding height_check
-height_asked_is file p polygon e = e
+-- what is asked once the file has passed
+abbrev pub height_then : List ℕ → Vec2 → ℕ → Check
+height_then file p polygon = ask (question16 p) CallFloatOutOfRange (ask (question17_height file polygon) NoSuchDeck (ask (question18 file polygon) NoSuchPolygon (Ok tt)))
+
+module _ (file : List ℕ) (p : Vec2) (polygon : ℕ) where
+  pub height_refused : {v : Result (List ℕ) Refusal} {q : Refusal} → v ≡ Err q → first_no file ≡ Err q → v ≡ opened (height_check file p polygon) file
+  unfolding height_check
+  height_refused e f = chain_refused (first_no file) (height_then file p polygon) file e f
+
+  module _ (passed : first_no file ≡ Ok tt) where
+    height_is_then : height_check file p polygon ≡ height_then file p polygon
+    unfolding height_check
+    height_is_then = chain_opened (first_no file) (height_then file p polygon) passed
+
+    pub height_no : {q : Refusal} → Err q ≡ height_then file p polygon → Err q ≡ opened (height_check file p polygon) file
+    height_no e = opens_err _ file (height_is_then ∙ sym e)
+
+    pub height_yes : {ship : List ℕ} → ship ≡ file → Ok tt ≡ height_then file p polygon → Ok ship ≡ opened (height_check file p polygon) file
+    height_yes s e = opens_ok _ file (height_is_then ∙ sym e) s
 
 -- all ones
 module _ (file : List ℕ) {polygon : ℕ} (ones : polygon ≡ all_ones) where
@@ -78,7 +96,7 @@ module _ (file : List ℕ) {polygon : ℕ} (named : polygon ≡ all_ones → ⊥
 pub deck_there : (file : List ℕ) {n d : ℕ} → n ≡ decks_in file → d < n → d < decks_in file
 deck_there file all l = omega arith
 
-pub ruleset height_asks = (asking, height_asked_is, deck_there, ones_17, ones_18, deck_no, deck_yes, polygon_no, polygon_yes)
+pub ruleset height_asks = (asking, deck_there, ones_17, ones_18, deck_no, deck_yes, polygon_no, polygon_yes)
 
 -- ---- `height_asked`
 -- what the questions say once they passed
@@ -126,9 +144,6 @@ ones_none file p ones = rw (eq-eqb _ _ ones)
 pub ruleset heights_asked = (passed_file, passed_deck, passed_polygon, height_is, height_small, ones_none)
 
 -- ---- `height`
-pub height_passed : (file : List ℕ) (p : Vec2) (polygon : ℕ) {r : Check} → r ≡ height_check file p polygon → r ≡ Ok tt → height_check file p polygon ≡ Ok tt
-height_passed file p polygon asked e = sym asked ∙ e
-
 module _ (file : List ℕ) (p : Vec2) (polygon : ℕ) {h : Height} (is : h ≡ height_call file p polygon) where
   pub height_none : h ≡ None → height_entry (height_call file p polygon) ≡ []
   height_none e = rw (sym is ∙ e)
@@ -153,4 +168,4 @@ module _ (file : List ℕ) (p : Vec2) (polygon : ℕ) {h : Height} (is : h ≡ h
     height_written o = o ∙ rw (sym is ∙ e)
 
 pub ruleset height_replies =
-    (height_passed, height_number, replied_refused, replied_short, replied_written, replied_none, height_none, height_short, height_fits, height_count, height_written)
+    (height_number, replied_refused, replied_short, replied_written, replied_none, height_none, height_short, height_fits, height_count, height_written)

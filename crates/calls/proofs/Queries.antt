@@ -1,18 +1,22 @@
 -- The questions of a query: from what the calls returned and the tests found to the answer, and from a passed query to what a search needs.
 use Prim.Native.Nat.{ℕ}
-use mathlib.Core.Path.{◌≡◌, sym, ap, ◌∙◌}
+use mathlib.Core.Path.{◌≡◌, refl, sym, ap, ◌∙◌}
 use mathlib.Core.Bool.{Bool, true, false}
 use mathlib.Core.List.{List}
 use lib.IntN.{ℤ}
+use lib.ListN.{length}
 use Rattle.geometry.specs.declared.Vec2.{Vec2}
 use Rattle.geometry.specs.Bounds.{PointWithin}
 use Rattle.ring.specs.Table.{directions}
 use Rattle.words.proofs.TableRows.{both}
 use Rattle.words.proofs.Collecting.{holds}
-use Rattle.answers.specs.Checks.{ask, after, Check}
+use Rattle.answers.specs.Checks.{ask, Check}
 use Rattle.answers.specs.Questions.{question14, question17}
-use Rattle.answers.proofs.Asking.{asking, asked_yes, both_passed, blocked_32}
-use Rattle.std.specs.Prelude.{Ok}
+use Rattle.answers.proofs.Asking.{asked_yes, both_passed, blocked_32}
+use Rattle.std.specs.Prelude.{Result, Ok, Err}
+use Rattle.answers.specs.declared.Refusal.{Refusal}
+use Rattle.decks.specs.Opened.{opened}
+use Rattle.decks.proofs.Opening.{opens_err, opens_ok, chain_refused, chain_opened}
 use Rattle.answers.specs.declared.Refusal.TheVariants.{WrongLength, CallFloatOutOfRange, NoSuchDeck}
 use Rattle.ship.specs.Layout.{decks_in}
 use Rattle.ship.specs.Floats.{in_size}
@@ -22,7 +26,9 @@ use Rattle.survey.specs.declared.DeckChoice.{DeckChoice}
 use Rattle.survey.specs.declared.Seat.{Seat}
 use Rattle.survey.specs.declared.Wish.TheVariants.{NoWish}
 use Rattle.survey.specs.Wishes.{choice_of}
+use Rattle.keeping.specs.Lists.{ListsRoom}
 use Rattle.walking.specs.Sees.{SearchReady}
+use Rattle.walking.specs.Lists.{ListsReady}
 use Rattle.calls.specs.Closest.{question16, asked_at, query_check}
 
 -- ---- `place_in_size`: where the first test fails its flag is the answer, and otherwise the second's
@@ -44,34 +50,49 @@ size_of_place p h =
     record { x = size_within 1000000 p.x (holds (in_size p.x) s.0); y = size_within 1000000 p.y (holds (in_size p.y) s.1) }
 
 -- ---- `query_check`
-pub query_is : (file : List ℕ) (p : Vec2) (deck : ℕ) (blocked : List ℕ) {v : Check}
-    → v ≡ after (first_no file) (ask (question14 blocked) WrongLength (ask (question16 p) CallFloatOutOfRange (ask (question17 (decks_in file) deck) NoSuchDeck (Ok tt)))) → v ≡ query_check file p deck blocked
-unfolding query_check
-query_is file p deck blocked e = e
+-- what is asked once the file has passed
+abbrev pub asked_then : List ℕ → Vec2 → ℕ → List ℕ → Check
+asked_then file p deck blocked = ask (question14 blocked) WrongLength (ask (question16 p) CallFloatOutOfRange (ask (question17 (decks_in file) deck) NoSuchDeck (Ok tt)))
 
-pub named_in : (file : List ℕ) (deck : ℕ) {decks : ℕ} {r : Bool} → decks ≡ decks_in file → r ≡ question17 decks deck → r ≡ question17 (decks_in file) deck
-named_in file deck e f = rw e at f
+module _ (file : List ℕ) (p : Vec2) (deck : ℕ) (blocked : List ℕ) where
+  pub query_refused : {v : Result (List ℕ) Refusal} {q : Refusal} → v ≡ Err q → first_no file ≡ Err q → v ≡ opened (query_check file p deck blocked) file
+  unfolding query_check
+  query_refused e f = chain_refused (first_no file) (asked_then file p deck blocked) file e f
 
-pub ruleset queries = (asking, query_is, named_in)
+  module _ (passed : first_no file ≡ Ok tt) where
+    query_is : query_check file p deck blocked ≡ asked_then file p deck blocked
+    unfolding query_check
+    query_is = chain_opened (first_no file) (asked_then file p deck blocked) passed
+
+    pub query_no : {q : Refusal} → Err q ≡ asked_then file p deck blocked → Err q ≡ opened (query_check file p deck blocked) file
+    query_no e = opens_err _ file (query_is ∙ sym e)
+
+    pub query_yes : {ship : List ℕ} → ship ≡ file → Ok tt ≡ asked_then file p deck blocked → Ok ship ≡ opened (query_check file p deck blocked) file
+    query_yes s e = opens_ok _ file (query_is ∙ sym e) s
 
 -- ---- `asked_at`
 pub asked_is : (p : Vec2) (deck : ℕ) {choice : DeckChoice} → choice ≡ choice_of deck → record { place = p; choice = choice; wish = NoWish } ≡ asked_at p deck
 asked_is p deck e = ap (λ (c : DeckChoice). record { place = p; choice = c; wish = NoWish }) e
 
 -- ---- a passed query
-module _ (file : List ℕ) (p : Vec2) (deck : ℕ) (blocked : List ℕ) {r : Check} (asked : r ≡ query_check file p deck blocked) (passed : r ≡ Ok tt) where
+module _ (file : List ℕ) (p : Vec2) (deck : ℕ) (blocked : List ℕ) (passed : query_check file p deck blocked ≡ Ok tt) where
   pub query_passed : first_no file ≡ Ok tt
   unfolding query_check
-  query_passed = (both_passed (first_no file) _ (sym asked ∙ passed)).0
+  query_passed = (both_passed (first_no file) _ passed).0
 
-  pub query_ready : {table : List ℤ} {seat : Seat} → table ≡ directions → seat ≡ asked_at p deck → SearchReady file blocked table seat
+  pub query_ready : {ship : List ℕ} {table : List ℤ} {seat : Seat} → ship ≡ file → table ≡ directions → seat ≡ asked_at p deck → SearchReady ship blocked table seat
   unfolding query_check
-  query_ready t e =
-      let f = both_passed (first_no file) _ (sym asked ∙ passed) in
+  query_ready same t e =
+      let f = both_passed (first_no file) _ passed in
       let b = asked_yes (question14 blocked) WrongLength _ f.1 in
       let s = asked_yes (question16 p) CallFloatOutOfRange _ b.1 in
       record {
-        file_ready = record { file_passed = f.0; table_is = t };
+        file_ready = record { file_passed = rw same f.0; table_is = t };
         blocked_long = blocked_32 blocked b.0;
         place_within = rw e (size_of_place p s.0);
       }
+
+  pub lists_ready : {ship : List ℕ} {seat : Seat} {kept : List ℕ} → ship ≡ file → seat ≡ asked_at p deck → ListsRoom kept → ListsReady ship seat.place kept × (length blocked ≡ 32)
+  lists_ready same e room =
+      let ready = query_ready same refl e in
+      (record { file_passed = ready.file_ready.file_passed; place_within = ready.place_within; room = room }, ready.blocked_long)

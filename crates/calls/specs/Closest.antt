@@ -1,5 +1,5 @@
 -- Document 01, section 5: `get_closest_points_on_layers` and `get_closest_point_on_layers`, their questions and their entries.
-use Rattle.std.specs.Prelude.{ℕ, ◌*◌, ◌≤◌, ◌<◌, ◌≡◌, Bool, ◌&&◌, List, [], ◌∷◌, ◌++◌, length, take, drop, ℤ, Float, Ok}
+use Rattle.std.specs.Prelude.{ℕ, ◌*◌, ◌≤◌, ◌≡◌, Bool, ◌&&◌, List, [], ◌∷◌, ◌++◌, length, take, drop, ℤ, Float, Ok}
 use Rattle.std.specs.Float.{binary32}
 use Rattle.std.specs.Float.Ieee.{to_bits}
 use Rattle.geometry.specs.declared.Vec2.{Vec2}
@@ -19,7 +19,6 @@ use Rattle.survey.specs.Wishes.{choice_of}
 use Rattle.survey.specs.View.{Shown, View}
 use Rattle.survey.specs.Search.{candidates, first_step, found_in}
 use Rattle.walking.specs.Sees.{shown_by, seen_by}
-use Rattle.walking.specs.Lists.{WalkReady}
 
 abbrev pub point_of_parts : Float → Float → Vec2
 point_of_parts x y = record { x = x; y = y }
@@ -89,16 +88,5 @@ StepCount v s count = count ≡ length (candidates v s)
 abbrev pub step_reply : View → ℕ → Reply
 step_reply v s = reply_of (Ok tt) (candidate_bytes v.shown) (candidates v s)
 
--- what a function that writes a step needs of the room, or of the count
-pub record PutReady (file blocked : List ℕ) (table : List ℤ) (seat : Seat) (s : ℕ) (out array : List ℕ) : Type 0 where
-  pub walk_ready : WalkReady file blocked table seat array
-  pub step_below : s < steps_in file
-  pub fits : StepFits (seen_by file blocked seat) s out
-
-pub record CountReady (file blocked : List ℕ) (table : List ℤ) (seat : Seat) (s count : ℕ) (array : List ℕ) : Type 0 where
-  pub walk_ready : WalkReady file blocked table seat array
-  pub step_below : s < steps_in file
-  pub counts : StepCount (seen_by file blocked seat) s count
-
-abbrev pub StepReplied : List ℕ → List ℕ → Seat → ℕ → List ℕ → List ℕ → Answer → Type 0
-StepReplied file blocked seat s out out' r = Replied (step_reply (seen_by file blocked seat) s) out out' r
+abbrev pub StepReplied : View → ℕ → List ℕ → List ℕ → Answer → Type 0
+StepReplied v s out out' r = Replied (step_reply v s) out out' r

@@ -6,16 +6,17 @@ ghost use Rattle.geometry.specs.Bounds.{PointWithin, HeightWithin};
 ghost use Rattle.words.specs.Bytes.{splice};
 ghost use Rattle.answers.specs.Replies.{Replied};
 ghost use Rattle.ship.specs.Floats.{in_size};
-ghost use Rattle.walking.specs.Sees.{seen_by};
-ghost use Rattle.calls.specs.Closest.{question16, asked_at, entry_size, entry_bytes, query_check, PointsReplied, PointReplied, StepPut, PutReady, CountReady, StepReplied};
+ghost use Rattle.decks.specs.Opened.{opened};
+ghost use Rattle.walking.specs.Asked.{seen};
+ghost use Rattle.calls.specs.Closest.{question16, asked_at, entry_size, entry_bytes, query_check, PointsReplied, PointReplied, StepPut, StepReplied};
 ghost use Rattle.calls.specs.HeightCall.{height_call, height_check, height_reply};
 
-use answers::{Answer, Check, Refusal};
-use decks::Deck;
+use answers::{Answer, Refusal};
+use decks::Ship;
 use geometry::{Height, Vec2};
 use keeping::{KEPT_SIZE, NEAR_SIZE};
 use survey::{DeckChoice, Seat, Wish};
-use walking::Next;
+use walking::{Next, Search, Step};
 
 pub const ENTRY_SIZE: usize = 12;
 
@@ -33,20 +34,20 @@ pub fn place_in_size(p: Vec2) -> bool
 }
 
 // Questions 1 to 17 of a query.
-fn query_check(file: &[u8], p: Vec2, deck: u32, blocked: &[u8]) -> Check
-    ensures { result ≡ query_check file.now p deck blocked.now }
+fn query_check<'a>(file: &'a [u8], p: Vec2, deck: u32, blocked: &[u8]) -> Result<Ship<'a>, Refusal>
+    ensures { result ≡ opened (query_check file.now p deck blocked.now) file.now }
 {
-    ship::first_no(file)?;
+    let ship = Ship::open(file)?;
     if !answers::blocked_whole(blocked) {
         return Err(Refusal::WrongLength);
     }
     if !place_in_size(p) {
         return Err(Refusal::CallFloatOutOfRange);
     }
-    if !answers::deck_there(decks::deck_count(file), deck) {
+    if !answers::deck_there(ship.deck_count(), deck) {
         return Err(Refusal::NoSuchDeck);
     }
-    Ok(())
+    Ok(ship)
 }
 
 // A query searches as a seat without a wish.
@@ -69,55 +70,33 @@ pub fn put_candidate(out: &mut [u8], n: usize, polygon: u32, place: Vec2)
     words::put_words(out, ENTRY_SIZE * n, &words)
 }
 
-// The candidates of step s, written from the first byte on.
-fn put_step(
-    file: &[u8],
-    blocked: &[u8],
-    table: &[i32; 2432],
-    seat: Seat,
-    s: usize,
-    out: &mut [u8],
-    kept: &[u32],
-)
-    requires { PutReady file.now blocked.now table.now seat s out.old kept.now }
-    ensures { StepPut (seen_by file.now blocked.now seat) s out.old out.new }
+// The candidates of a step, written from the first byte on.
+fn put_step(step: &Step<'_>, out: &mut [u8])
+    requires { entry_size * step.now.count ≤ length out.old }
+    ensures { StepPut (seen step.now.search.now) step.now.number out.old out.new }
 {
+    let search = step.search;
     let mut near = [0u32; NEAR_SIZE];
     let mut n: usize = 0;
-    let mut next = walking::first(file, blocked, table, seat, s, kept, &mut near);
-    // A loop: a walk is lent its arrays at each step, so it is no iterator.
-    'candidates: loop {
-        match next {
-            Next::Ended(_) => return,
-            Next::Reached(c, _) => {
-                let place = walking::place_of(file, table, seat.place, c);
-                put_candidate(out, n, decks::packed(c.deck, c.polygon), place);
-                n += 1;
-                next = walking::after(file, blocked, table, seat, c, kept, &mut near);
-            }
-        }
+    let mut next = search.first(step.number, &mut near);
+    // A walk is lent its array at each step, so it is no iterator.
+    'candidates: while let Next::Reached(c, _) = next {
+        let polygon = decks::packed(c.deck, c.polygon);
+        put_candidate(out, n, polygon, search.place_of(c));
+        n += 1;
+        next = search.after(c, &mut near);
     }
 }
 
-// The candidates of step s, of which there are `count`, where the output has room for them.
-fn put_counted(
-    file: &[u8],
-    blocked: &[u8],
-    table: &[i32; 2432],
-    seat: Seat,
-    s: usize,
-    count: usize,
-    out: &mut [u8],
-    kept: &[u32],
-) -> Answer
-    requires { CountReady file.now blocked.now table.now seat s count kept.now }
-    ensures { StepReplied file.now blocked.now seat s out.old out.new result }
+// The same, where the output has room for them.
+fn put_counted(step: &Step<'_>, out: &mut [u8]) -> Answer
+    ensures { StepReplied (seen step.now.search.now) step.now.number out.old out.new result }
 {
-    if !answers::room_for(ENTRY_SIZE, count, out.len()) {
+    if !answers::room_for(ENTRY_SIZE, step.count, out.len()) {
         return Err(Refusal::NoRoom);
     }
-    put_step(file, blocked, table, seat, s, out, kept);
-    Ok(count)
+    put_step(step, out);
+    Ok(step.count)
 }
 
 // The candidates of the first step with any. The first search counts them, since question 20 comes before a byte is written.
@@ -130,25 +109,29 @@ pub fn get_closest_points_on_layers(
 ) -> Answer
     ensures { PointsReplied file.now p deck blocked.now out.old out.new result }
 {
-    query_check(file, p, deck, blocked)?;
+    let ship = query_check(file, p, deck, blocked)?;
     let table = ring::all_directions();
+    let seat = asked_at(p, deck);
     let mut kept = [0u32; KEPT_SIZE];
     let mut near = [0u32; NEAR_SIZE];
-    let seat = asked_at(p, deck);
-    let found = placing::place_seat(file, blocked, &table, seat, &mut kept, &mut near);
+    walking::sift_decks(&ship, blocked, seat, &mut kept);
+    let search = Search {
+        ship: &ship,
+        blocked,
+        table: &table,
+        seat,
+        kept: &kept,
+    };
+    let found = placing::place_seat(&search, &mut near);
     if records::unplaced(found) {
         return Ok(0);
     }
-    put_counted(
-        file,
-        blocked,
-        &table,
-        seat,
-        found.step as usize,
-        found.candidates as usize,
-        out,
-        &kept,
-    )
+    let step = Step {
+        search: &search,
+        number: found.step as usize,
+        count: found.candidates as usize,
+    };
+    put_counted(&step, out)
 }
 
 // The first of them, or none. It is what the record of such a seat begins with.
@@ -161,18 +144,20 @@ pub fn get_closest_point_on_layers(
 ) -> Answer
     ensures { PointReplied file.now p deck blocked.now out.old out.new result }
 {
-    query_check(file, p, deck, blocked)?;
+    let ship = query_check(file, p, deck, blocked)?;
     let table = ring::all_directions();
+    let seat = asked_at(p, deck);
     let mut kept = [0u32; KEPT_SIZE];
     let mut near = [0u32; NEAR_SIZE];
-    let found = placing::place_seat(
-        file,
+    walking::sift_decks(&ship, blocked, seat, &mut kept);
+    let search = Search {
+        ship: &ship,
         blocked,
-        &table,
-        asked_at(p, deck),
-        &mut kept,
-        &mut near,
-    );
+        table: &table,
+        seat,
+        kept: &kept,
+    };
+    let found = placing::place_seat(&search, &mut near);
     if records::unplaced(found) {
         return Ok(0);
     }
@@ -185,36 +170,35 @@ pub fn get_closest_point_on_layers(
 }
 
 // Questions 1 to 18 of a place and a packed polygon.
-fn height_check(file: &[u8], p: Vec2, polygon: u32) -> Check
-    ensures { result ≡ height_check file.now p polygon }
+fn height_check(file: &[u8], p: Vec2, polygon: u32) -> Result<Ship<'_>, Refusal>
+    ensures { result ≡ opened (height_check file.now p polygon) file.now }
 {
-    ship::first_no(file)?;
+    let ship = Ship::open(file)?;
     if !place_in_size(p) {
         return Err(Refusal::CallFloatOutOfRange);
     }
     if polygon == words::ALL_ONES {
-        return Ok(());
+        return Ok(ship);
     }
     let d = decks::packed_deck(polygon);
-    if d >= decks::deck_count(file) {
+    if d >= ship.deck_count() {
         return Err(Refusal::NoSuchDeck);
     }
-    let deck = Deck::of(file, d);
-    if decks::packed_polygon(polygon) >= deck.polygon_count() {
+    if decks::packed_polygon(polygon) >= ship.deck(d).polygon_count() {
         return Err(Refusal::NoSuchPolygon);
     }
-    Ok(())
+    Ok(ship)
 }
 
 // The height at a place and of a polygon that passed them.
-fn height_asked(file: &[u8], p: Vec2, polygon: u32) -> Height
-    requires { height_check file.now p polygon ≡ Ok tt }
-    ensures { (result ≡ height_call file.now p polygon) × HeightWithin (2 ^ 121) result }
+fn height_asked(ship: &Ship<'_>, p: Vec2, polygon: u32) -> Height
+    requires { height_check ship.now p polygon ≡ Ok tt }
+    ensures { (result ≡ height_call ship.now p polygon) × HeightWithin (2 ^ 121) result }
 {
     if polygon == words::ALL_ONES {
         return Height::None;
     }
-    let deck = Deck::of(file, decks::packed_deck(polygon));
+    let deck = ship.deck(decks::packed_deck(polygon));
     search::height_at(&deck, decks::packed_polygon(polygon), p)
 }
 
@@ -222,8 +206,8 @@ fn height_asked(file: &[u8], p: Vec2, polygon: u32) -> Height
 pub fn height(file: &[u8], p: Vec2, polygon: u32, out: &mut [u8]) -> Answer
     ensures { Replied (height_reply file.now p polygon) out.old out.new result }
 {
-    height_check(file, p, polygon)?;
-    match height_asked(file, p, polygon) {
+    let ship = height_check(file, p, polygon)?;
+    match height_asked(&ship, p, polygon) {
         Height::None => Ok(0),
         Height::Known(h) => {
             if out.len() < 4 {

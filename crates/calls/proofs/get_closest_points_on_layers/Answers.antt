@@ -1,34 +1,48 @@
 -- `get_closest_points_on_layers` meets its contract.
 use borrow.Author.Rules.{rules}
-use Rattle.calls.proofs.Queries.{query_ready}
-use Rattle.calls.proofs.ClosestCalls.{step_below, points_count, points_replied, all_points}
 use Rattle.answers.proofs.Asking.{handed_on}
+use Rattle.answers.proofs.Replying.{replied_refused}
+use Rattle.decks.proofs.Opening.{was_refused, was_opened}
+use Rattle.calls.proofs.Queries.{query_ready, lists_ready}
+use Rattle.calls.proofs.ClosestCalls.{points_none, step_below, points_count, points_replied}
 use Rattle.calls.proofs.get_closest_points_on_layers.Goals as goal
 
-pub returns-in_err-query_check : goal.returns-in_err-query_check
-returns-in_err-query_check c = search (c.in_err-query_check.was, handed_on c.from_residual.ensures.1, all_points, rules)
+pub returns-in_err-ship : goal.returns-in_err-ship
+returns-in_err-ship c =
+    search (replied_refused, was_refused _ _ c.query_check.ensures c.in_err-ship.was, handed_on c.from_residual.ensures.1, rules)
 
-pub place_seat-found-requires : goal.place_seat-found-requires
-place_seat-found-requires c = search (c.in_ok-query_check.was, all_points, rules)
+pub sift_decks-requires : goal.sift_decks-requires
+sift_decks-requires c =
+    let o = was_opened _ _ c.query_check.ensures c.in_ok-ship.was in
+    lists_ready _ _ _ _ o.0 o.1 c.asked_at-seat.ensures (search rules)
+
+pub invariant_of-search : goal.invariant_of-search
+invariant_of-search c =
+    let o = was_opened _ _ c.query_check.ensures c.in_ok-ship.was in
+    record {
+      ready =
+          record {
+            search_ready = query_ready _ _ _ _ o.0 o.1 c.all_directions-table.ensures c.asked_at-seat.ensures;
+            sifted = c.sift_decks.ensures;
+          };
+    }
 
 pub returns-then-unplaced : goal.returns-then-unplaced
-returns-then-unplaced c = search (c.in_ok-query_check.was, all_points, rules)
+returns-then-unplaced c =
+    let o = was_opened _ _ c.query_check.ensures c.in_ok-ship.was in
+    points_none _ _ _ _ c.asked_at-seat.ensures (rw o.1 at c.place_seat-found.ensures) c.unplaced.ensures o.0 c.if-unplaced.true
 
-pub put_counted-requires : goal.put_counted-requires
-put_counted-requires c =
-    record {
-      walk_ready =
-          record {
-            search_ready = search (query_ready, c.asked_at-seat.ensures, c.all_directions-table.ensures, c.in_ok-query_check.was, c.query_check.ensures, rules);
-            sifted = c.place_seat-found.ensures.1;
-          };
-      step_below =
-          step_below _ _ _ _ c.asked_at-seat.ensures c.place_seat-found.ensures.0 c.unplaced.ensures c.query_check.ensures
-          c.in_ok-query_check.was c.if-unplaced.false;
-      counts = points_count _ _ _ _ c.asked_at-seat.ensures c.place_seat-found.ensures.0 c.unplaced.ensures c.if-unplaced.false;
-    }
+pub invariant_of-step : goal.invariant_of-step
+invariant_of-step c =
+    let o = was_opened _ _ c.query_check.ensures c.in_ok-ship.was in
+    let found = rw o.1 at c.place_seat-found.ensures in
+    rw o.1 (record {
+      there = step_below _ _ _ _ c.asked_at-seat.ensures found c.unplaced.ensures o.0 c.if-unplaced.false;
+      counted = points_count _ _ _ _ c.asked_at-seat.ensures found c.unplaced.ensures c.if-unplaced.false;
+    })
 
 pub returns : goal.returns
 returns c =
-    points_replied _ _ _ _ c.asked_at-seat.ensures c.place_seat-found.ensures.0 c.unplaced.ensures c.if-unplaced.false
-    c.query_check.ensures c.in_ok-query_check.was c.put_counted.ensures
+    let o = was_opened _ _ c.query_check.ensures c.in_ok-ship.was in
+    points_replied _ _ _ _ c.asked_at-seat.ensures (rw o.1 at c.place_seat-found.ensures) c.unplaced.ensures c.if-unplaced.false
+    o.0 (rw o.1 at c.put_counted.ensures)

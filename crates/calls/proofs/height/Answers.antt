@@ -2,19 +2,35 @@
 use borrow.Author.Rules.{rules}
 use Rattle.calls.proofs.HeightCalls.{height_replies}
 use Rattle.answers.proofs.Asking.{handed_on}
+use Rattle.decks.proofs.Opening.{was_refused, was_opened}
 use Rattle.calls.proofs.height.Goals as goal
 
-pub returns-in_err-height_check : goal.returns-in_err-height_check
-returns-in_err-height_check c = search (c.in_err-height_check.was, handed_on c.from_residual.ensures.1, height_replies, rules)
+pub returns-in_err-ship : goal.returns-in_err-ship
+returns-in_err-ship c =
+    search (was_refused _ _ c.height_check.ensures c.in_err-ship.was, handed_on c.from_residual.ensures.1, height_replies, rules)
+
+pub height_asked-requires : goal.height_asked-requires
+height_asked-requires c =
+    let o = was_opened _ _ c.height_check.ensures c.in_ok-ship.was in
+    rw o.1 o.0
 
 pub returns-then-out-lt4 : goal.returns-then-out-lt4
-returns-then-out-lt4 c = search (c.in_ok-height_check.was, height_replies, rules)
+returns-then-out-lt4 c =
+    let o = was_opened _ _ c.height_check.ensures c.in_ok-ship.was in
+    let asked = rw o.1 at c.height_asked.ensures.0 in
+    search (o.0, asked, height_replies, rules)
 
 pub put_f32-requires : goal.put_f32-requires
 put_f32-requires c = search (height_replies, rules)
 
 pub returns-in-None : goal.returns-in-None
-returns-in-None c = search (c.in_ok-height_check.was, height_replies, rules)
+returns-in-None c =
+    let o = was_opened _ _ c.height_check.ensures c.in_ok-ship.was in
+    let asked = rw o.1 at c.height_asked.ensures.0 in
+    search (o.0, asked, height_replies, rules)
 
 pub returns-else-out-lt4 : goal.returns-else-out-lt4
-returns-else-out-lt4 c = search (c.in_ok-height_check.was, height_replies, rules)
+returns-else-out-lt4 c =
+    let o = was_opened _ _ c.height_check.ensures c.in_ok-ship.was in
+    let asked = rw o.1 at c.height_asked.ensures.0 in
+    search (o.0, asked, height_replies, rules)
