@@ -160,7 +160,7 @@ module _ {file list₀ list : List ℕ} {head n h t : ℕ} (f : Flooding file li
           let e = f.flooded.reordered.long in
           let s = (reordered_from f.flooded.reordered {u = head} (omega arith)).old h f.low (omega (arith, f.flooded.high)) in
           record {
-            touch = record { passed = f.ready.passed; there = rw (is, s.is) (f.ready.there s.place s.low s.high) };
+            touch = record { there = rw (is, s.is) (f.ready.there s.place s.low s.high) };
             low = f.flooded.high;
             room = omega (arith, f.ready.room);
             rising = f.flooded.rising;

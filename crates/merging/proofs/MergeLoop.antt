@@ -87,7 +87,6 @@ module _ {file list₀ list : List ℕ} {n kept t : ℕ} (g : Merging file list�
     pub merging_flood : FloodReady file list t n
     merging_flood =
         record {
-          passed = g.ready.passed;
           some = h;
           room = omega (arith, g.ready.room, g.long);
           there = λ k a b. let s = g.old k a b in rw s.is (g.ready.there s.place s.high);

@@ -1,10 +1,9 @@
 -- What the inner functions of the merging need and promise: numbers that change places, and a flood over those that are left.
-use Rattle.std.specs.Prelude.{ℕ, ◌+◌, ◌*◌, ◌<◌, ◌≤◌, ◌≡◌, true, false, List, T, length, Ok}
+use Rattle.std.specs.Prelude.{ℕ, ◌+◌, ◌*◌, ◌<◌, ◌≤◌, ◌≡◌, true, false, List, T, length}
 use Rattle.words.specs.Bytes.{byte_at, number_at}
 use Rattle.words.specs.Rows.{has}
 use Rattle.ship.specs.Layout.{number_size}
 use Rattle.ship.specs.Decode.{decode}
-use Rattle.ship.specs.Questions.{first_no}
 use Rattle.touching.specs.Touching.{touches, PolygonThere, TouchReady}
 use Rattle.touching.specs.Reach.{Chain}
 
@@ -57,7 +56,6 @@ pub record Parted (file list list' : List ℕ) (a n i w : ℕ) : Type 0 where
 
 -- ---- `flood`
 pub record FloodReady (file list : List ℕ) (head n : ℕ) : Type 0 where
-  pub passed : first_no file ≡ Ok tt
   pub some : head < n
   pub room : number_size * n ≤ length list
   pub there : (k : ℕ) → head ≤ k → k < n → PolygonThere file (number_at list k)

@@ -1,10 +1,9 @@
 -- The merging of a list of packed polygons that stands in lent bytes, one number after the other.
-use Rattle.std.specs.Prelude.{ℕ, ◌*◌, ◌<◌, ◌≤◌, ◌≡◌, List, length, Ok}
+use Rattle.std.specs.Prelude.{ℕ, ◌*◌, ◌<◌, ◌≤◌, ◌≡◌, List, length}
 use Rattle.words.specs.Bytes.{number_at, slice, words_of}
 use Rattle.words.specs.Rows.{rows}
 use Rattle.ship.specs.Layout.{number_size}
 use Rattle.ship.specs.Decode.{decode}
-use Rattle.ship.specs.Questions.{first_no}
 use Rattle.touching.specs.Touching.{touches, PolygonThere}
 use Rattle.touching.specs.Reach.{merged}
 
@@ -16,9 +15,8 @@ numbers_in list n = rows (number_at list) 0 n
 abbrev pub staying : List ℕ → List ℕ → ℕ → List ℕ
 staying file list n = merged (touches (decode file)) (numbers_in list n)
 
--- a passed file, and n of its polygons in rising order, which is the order of candidates
+-- n of the polygons of a ship file in rising order, which is the order of candidates
 pub record ListReady (file list : List ℕ) (n : ℕ) : Type 0 where
-  pub passed : first_no file ≡ Ok tt
   pub room : number_size * n ≤ length list
   pub there : (k : ℕ) → k < n → PolygonThere file (number_at list k)
   pub rising : (j k : ℕ) → j < k → k < n → number_at list j < number_at list k

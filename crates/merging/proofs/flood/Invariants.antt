@@ -4,7 +4,7 @@ use Rattle.merging.proofs.FloodLoop.{Flooding}
 use Rattle.merging.proofs.flood.Given as goal
 
 abbrev pub invariant-waiting : goal.invariant-waiting
-invariant-waiting l = Flooding l.file l.initial.list l.list l.head l.n l.h l.t
+invariant-waiting l = Flooding l.ship l.initial.list l.list l.head l.n l.h l.t
 
 abbrev pub decreases-waiting : goal.decreases-waiting
 decreases-waiting l = l.n - l.h

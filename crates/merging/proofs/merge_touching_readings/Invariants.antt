@@ -4,7 +4,7 @@ use Rattle.merging.proofs.MergeLoop.{Merging}
 use Rattle.merging.proofs.merge_touching_readings.Given as goal
 
 abbrev pub invariant-left : goal.invariant-left
-invariant-left l = Merging l.file l.initial.list l.list l.n l.kept l.t
+invariant-left l = Merging l.ship l.initial.list l.list l.n l.kept l.t
 
 abbrev pub decreases-left : goal.decreases-left
 decreases-left l = l.n - l.t
