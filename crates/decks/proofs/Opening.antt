@@ -16,6 +16,17 @@ pub opened_ok : (c : Check) (s : List ℕ) {t : List ℕ} → opened c s ≡ Ok 
 opened_ok (Ok passed) s h = (refl, cc)
 opened_ok (Err e) s h = (cc, cc)
 
+-- r is what the check returned
+module _ (c : Check) (s : List ℕ) {r : Result (List ℕ) Refusal} (asked : r ≡ opened c s) where
+  pub open_no : {q : Refusal} → r ≡ Err q → c ≡ Err q
+  open_no e = opened_err c s (sym asked ∙ e)
+
+  pub open_yes : {t : List ℕ} → r ≡ Ok t → c ≡ Ok tt
+  open_yes e = (opened_ok c s (sym asked ∙ e)).0
+
+  pub open_same : {t : List ℕ} → r ≡ Ok t → t ≡ s
+  open_same e = (opened_ok c s (sym asked ∙ e)).1
+
 -- ---- what the check itself owes
 pub opens_err : (c : Check) (s : List ℕ) {q : Refusal} → c ≡ Err q → Err q ≡ opened c s
 opens_err c s e = rw e
@@ -37,4 +48,4 @@ chain_refused c later s e f = e ∙ rw f
 pub chain_opened : (c later : Check) → c ≡ Ok tt → after c later ≡ later
 chain_opened c later f = rw f
 
-pub ruleset opening = (opened_err, opened_ok, opens_err, opens_ok)
+pub ruleset opening = (opened_err, opened_ok, open_no, open_yes, open_same, opens_err, opens_ok)

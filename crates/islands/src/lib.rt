@@ -5,12 +5,13 @@ ghost use Rattle.std.specs.Prelude.{◌≡◌, ◌||◌, ◌++◌, ◌+◌, ◌*
 ghost use Rattle.words.specs.Bytes.{all_ones, words_of, put_u32, number_at};
 ghost use Rattle.ship.specs.Layout.{number_size};
 ghost use Rattle.ship.specs.Model.{neighbours_of};
+ghost use Rattle.decks.specs.Opened.{opened};
 ghost use Rattle.islands.specs.Islands.{list_inside, polygon_inside, question19, islands_check, IslandsWorked, LabelsLeast};
 ghost use Rattle.islands.specs.Walk.{no_label, Marked, MarkReady, ListReady, ListRead, PolygonReady, PolygonRead};
 ghost use Rattle.islands.specs.Walk.{WalkReady, Walked, LabelReady, LabelsPut};
 
-use answers::{Answer, Check, Refusal};
-use decks::Deck;
+use answers::{Answer, Refusal};
+use decks::{Deck, Ship};
 use ship::NUMBER_SIZE;
 
 // An entry that is no polygon, the outside. In a label's place: none yet.
@@ -66,18 +67,18 @@ pub fn entries_inside(deck: &Deck<'_>) -> bool
 }
 
 // Questions 1 to 19.
-fn islands_check(file: &[u8], deck: u32) -> Check
-    ensures { result ≡ islands_check file.now deck }
+fn islands_check(file: &[u8], deck: u32) -> Result<Ship<'_>, Refusal>
+    ensures { result ≡ opened (islands_check file.now deck) file.now }
 {
-    ship::first_no(file)?;
+    let ship = Ship::open(file)?;
     let d = deck as usize;
-    if d >= decks::deck_count(file) {
+    if d >= ship.deck_count() {
         return Err(Refusal::NoSuchDeck);
     }
-    if !entries_inside(&Deck::of(file, d)) {
+    if !entries_inside(&ship.deck(d)) {
         return Err(Refusal::NoSuchNeighbour);
     }
-    Ok(())
+    Ok(ship)
 }
 
 // No label in any of the n places.
@@ -185,8 +186,8 @@ pub fn bake_islands_detection(file: &[u8], deck: u32, out: &mut [u8], work: &mut
         work.old work.new result }
     ensures labelled { LabelsLeast file.now deck }
 {
-    islands_check(file, deck)?;
-    let labelled = Deck::of(file, deck as usize);
+    let ship = islands_check(file, deck)?;
+    let labelled = ship.deck(deck as usize);
     let n = labelled.polygon_count();
     if !answers::room_for(NUMBER_SIZE, n, work.len()) {
         return Err(Refusal::NoRoom);
