@@ -17,10 +17,10 @@ use Rattle.words.specs.Bytes.{all_ones, bytes4, joined, splice, put_f32}
 use Rattle.answers.specs.Checks.{ask, Check}
 use Rattle.answers.proofs.Asking.{asking, asked_yes, both_passed}
 use Rattle.answers.proofs.Replying.{replied_refused, replied_short, replied_written, replied_none}
-use Rattle.std.specs.Prelude.{Result, Ok, Err}
+use Rattle.std.specs.Prelude.{Ok, Err}
 use Rattle.answers.specs.declared.Refusal.{Refusal}
 use Rattle.decks.specs.Opened.{opened}
-use Rattle.decks.proofs.Opening.{opens_err, opens_ok, chain_refused, chain_opened}
+use Rattle.decks.proofs.Opening.{opens_err, opens_ok, chain_opened}
 use Rattle.answers.specs.declared.Refusal.TheVariants.{CallFloatOutOfRange, NoSuchDeck, NoSuchPolygon}
 use Rattle.ship.specs.Layout.{decks_in}
 use Rattle.ship.specs.Decode.{decode}
@@ -41,10 +41,6 @@ abbrev pub height_then : List ℕ → Vec2 → ℕ → Check
 height_then file p polygon = ask (question16 p) CallFloatOutOfRange (ask (question17_height file polygon) NoSuchDeck (ask (question18 file polygon) NoSuchPolygon (Ok tt)))
 
 module _ (file : List ℕ) (p : Vec2) (polygon : ℕ) where
-  pub height_refused : {v : Result (List ℕ) Refusal} {q : Refusal} → v ≡ Err q → first_no file ≡ Err q → v ≡ opened (height_check file p polygon) file
-  unfolding height_check
-  height_refused e f = chain_refused (first_no file) (height_then file p polygon) file e f
-
   module _ (passed : first_no file ≡ Ok tt) where
     height_is_then : height_check file p polygon ≡ height_then file p polygon
     unfolding height_check

@@ -10,15 +10,10 @@ use Rattle.geometry.specs.Bounds.{PointWithin}
 use Rattle.ring.specs.Table.{directions}
 use Rattle.words.proofs.TableRows.{both}
 use Rattle.words.proofs.Collecting.{holds}
-use Rattle.answers.specs.Checks.{ask, Check}
-use Rattle.answers.specs.Questions.{question14, question17}
+use Rattle.answers.specs.Questions.{question14}
 use Rattle.answers.proofs.Asking.{asked_yes, both_passed, blocked_32}
-use Rattle.std.specs.Prelude.{Result, Ok, Err}
-use Rattle.answers.specs.declared.Refusal.{Refusal}
-use Rattle.decks.specs.Opened.{opened}
-use Rattle.decks.proofs.Opening.{opens_err, opens_ok, chain_refused, chain_opened}
-use Rattle.answers.specs.declared.Refusal.TheVariants.{WrongLength, CallFloatOutOfRange, NoSuchDeck}
-use Rattle.ship.specs.Layout.{decks_in}
+use Rattle.std.specs.Prelude.{Ok}
+use Rattle.answers.specs.declared.Refusal.TheVariants.{WrongLength, CallFloatOutOfRange}
 use Rattle.ship.specs.Floats.{in_size}
 use Rattle.ship.specs.Questions.{first_no}
 use Rattle.ship.proofs.FloatBits.{size_within}
@@ -48,27 +43,6 @@ unfolding question16
 size_of_place p h =
     let s = both (in_size p.x) (in_size p.y) h in
     record { x = size_within 1000000 p.x (holds (in_size p.x) s.0); y = size_within 1000000 p.y (holds (in_size p.y) s.1) }
-
--- ---- `query_check`
--- what is asked once the file has passed
-abbrev pub asked_then : List ℕ → Vec2 → ℕ → List ℕ → Check
-asked_then file p deck blocked = ask (question14 blocked) WrongLength (ask (question16 p) CallFloatOutOfRange (ask (question17 (decks_in file) deck) NoSuchDeck (Ok tt)))
-
-module _ (file : List ℕ) (p : Vec2) (deck : ℕ) (blocked : List ℕ) where
-  pub query_refused : {v : Result (List ℕ) Refusal} {q : Refusal} → v ≡ Err q → first_no file ≡ Err q → v ≡ opened (query_check file p deck blocked) file
-  unfolding query_check
-  query_refused e f = chain_refused (first_no file) (asked_then file p deck blocked) file e f
-
-  module _ (passed : first_no file ≡ Ok tt) where
-    query_is : query_check file p deck blocked ≡ asked_then file p deck blocked
-    unfolding query_check
-    query_is = chain_opened (first_no file) (asked_then file p deck blocked) passed
-
-    pub query_no : {q : Refusal} → Err q ≡ asked_then file p deck blocked → Err q ≡ opened (query_check file p deck blocked) file
-    query_no e = opens_err _ file (query_is ∙ sym e)
-
-    pub query_yes : {ship : List ℕ} → ship ≡ file → Ok tt ≡ asked_then file p deck blocked → Ok ship ≡ opened (query_check file p deck blocked) file
-    query_yes s e = opens_ok _ file (query_is ∙ sym e) s
 
 -- ---- `asked_at`
 pub asked_is : (p : Vec2) (deck : ℕ) {choice : DeckChoice} → choice ≡ choice_of deck → record { place = p; choice = choice; wish = NoWish } ≡ asked_at p deck

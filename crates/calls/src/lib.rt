@@ -34,6 +34,7 @@ pub fn place_in_size(p: Vec2) -> bool
 }
 
 // Questions 1 to 17 of a query.
+#[tactic(auto, using(answers::proofs::Asking::handed_on), unfolding(crate::specs::Closest::query_check))]
 fn query_check<'a>(file: &'a [u8], p: Vec2, deck: u32, blocked: &[u8]) -> Result<Ship<'a>, Refusal>
     ensures { result ≡ opened (query_check file.now p deck blocked.now) file.now }
 {
@@ -170,6 +171,7 @@ pub fn get_closest_point_on_layers(
 }
 
 // Questions 1 to 18 of a place and a packed polygon.
+#[tactic(auto, using(answers::proofs::Asking::handed_on, crate::proofs::HeightCalls::height_asks), unfolding(crate::specs::HeightCall::height_check))]
 fn height_check(file: &[u8], p: Vec2, polygon: u32) -> Result<Ship<'_>, Refusal>
     ensures { result ≡ opened (height_check file.now p polygon) file.now }
 {

@@ -18,10 +18,11 @@ use Rattle.survey.specs.Search.{candidates}
 use Rattle.walking.specs.declared.Next.{Next}
 use Rattle.walking.specs.declared.Next.TheVariants.{Reached, Ended}
 use Rattle.walking.specs.Sees.{seen_by}
+use Rattle.walking.specs.Lists.{WalkReady}
 use Rattle.walking.specs.Walk.{WalkedStep, WalkedAfter}
 use Rattle.walking.proofs.ShownLaws.{few_candidates}
 use Rattle.walking.proofs.Passing.{nowhere, Passing, passing_all, passing_ended, passing_below, passing_here, passing_more, passing}
-use Rattle.numbering.specs.Numbers.{packed_candidate, step_numbers, NumbersFit}
+use Rattle.numbering.specs.Numbers.{packed_candidate, step_numbers}
 use Rattle.std.specs.Prelude.{Ok}
 
 pub numbers_length : (file blocked : List ℕ) (seat : Seat) (s : ℕ) → length (step_numbers file blocked seat s) ≡ length (candidates (seen_by file blocked seat) s)
@@ -51,9 +52,11 @@ pub record Putting (file blocked : List ℕ) (seat : Seat) (s : ℕ) (list₀ li
   pub room : number_size * length (step_numbers file blocked seat s) ≤ length list₀
   pub rest : Rest bytes4 number_size 0 list₀ 0 (step_numbers file blocked seat s) list n
 
-pub putting_all : {file blocked : List ℕ} {table : List ℤ} {seat : Seat} {s : ℕ} {list array : List ℕ} {next : Next} → NumbersFit file blocked table seat s list array
+pub putting_all : {file blocked : List ℕ} {table : List ℤ} {seat : Seat} {s count : ℕ} {list array : List ℕ} {next : Next} → WalkReady file blocked table seat array
+    → count ≡ length (candidates (seen_by file blocked seat) s) → number_size * count ≤ length list
     → WalkedStep file (seen_by file blocked seat) s next → Putting file blocked seat s list list 0 next
-putting_all fit w = record { passes = passing_all fit.ready.walk_ready w; room = fit.fits; rest = rest_all }
+putting_all {file} {blocked} {seat = seat} {s = s} ready counts fits w =
+    record { passes = passing_all ready w; room = omega (arith, numbers_length file blocked seat s, counts, fits); rest = rest_all }
 
 module _ {file blocked : List ℕ} {seat : Seat} {s : ℕ} {list₀ list : List ℕ} {n : ℕ} {next : Next} (h : Putting file blocked seat s list₀ list n next) where
   pub putting_long : length list ≡ length list₀

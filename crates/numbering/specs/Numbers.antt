@@ -1,8 +1,6 @@
 -- The packed numbers of the candidates of a step, and which of them drop out (document 01, section 8, `candidate_polygons`).
-use Rattle.std.specs.Prelude.{ℕ, ◌*◌, ◌^◌, ◌≤◌, ◌<◌, ◌≡◌, Bool, List, map, T, ℤ, length}
-use Rattle.words.specs.Rows.{has}
+use Rattle.std.specs.Prelude.{ℕ, Bool, List, map}
 use Rattle.hits.specs.declared.Candidate.{Candidate}
-use Rattle.ship.specs.Layout.{number_size, steps_in}
 use Rattle.ship.specs.Decode.{decode}
 use Rattle.ship.specs.Packed.{packed_of}
 use Rattle.survey.specs.declared.Seat.{Seat}
@@ -10,7 +8,7 @@ use Rattle.survey.specs.Search.{candidates}
 use Rattle.touching.specs.Touching.{touches}
 use Rattle.touching.specs.Reach.{within, drops, merged}
 use Rattle.walking.specs.Sees.{seen_by}
-use Rattle.walking.specs.Lists.{WalkReady}
+use Rattle.walking.specs.declared.Step.{Step}
 
 abbrev pub packed_candidate : Candidate → ℕ
 packed_candidate c = packed_of c.deck c.polygon
@@ -29,29 +27,15 @@ step_drops file blocked seat s j = drops (touches (decode file)) (step_numbers f
 abbrev pub step_merged : List ℕ → List ℕ → Seat → ℕ → List ℕ
 step_merged file blocked seat s = merged (touches (decode file)) (step_numbers file blocked seat s)
 
--- ---- what the functions of a step need
-pub record StepReady (file blocked : List ℕ) (table : List ℤ) (seat : Seat) (s : ℕ) (array : List ℕ) : Type 0 where
-  pub walk_ready : WalkReady file blocked table seat array
-  pub step_below : s < steps_in file
+-- ---- the same of a step of a search
+abbrev pub numbers_of : Step → List ℕ
+numbers_of step = step_numbers step.search.now.ship.now step.search.now.blocked.now step.search.now.seat step.number
 
--- room for them
-pub record NumbersFit (file blocked : List ℕ) (table : List ℤ) (seat : Seat) (s : ℕ) (list array : List ℕ) : Type 0 where
-  pub ready : StepReady file blocked table seat s array
-  pub fits : number_size * length (step_numbers file blocked seat s) ≤ length list
+abbrev pub reach_of : Step → ℕ → ℕ → ℕ → Bool
+reach_of step t a b = step_reach step.search.now.ship.now step.search.now.blocked.now step.search.now.seat step.number t a b
 
--- how many they are
-pub record StepCounted (file blocked : List ℕ) (table : List ℤ) (seat : Seat) (s count : ℕ) (array : List ℕ) : Type 0 where
-  pub ready : StepReady file blocked table seat s array
-  pub counts : count ≡ length (step_numbers file blocked seat s)
+abbrev pub drops_of : Step → ℕ → Bool
+drops_of step j = step_drops step.search.now.ship.now step.search.now.blocked.now step.search.now.seat step.number j
 
--- two of them
-pub record ReachReady (file blocked : List ℕ) (table : List ℤ) (seat : Seat) (s count a b : ℕ) (array : List ℕ) : Type 0 where
-  pub counted : StepCounted file blocked table seat s count array
-  pub start : T (has (step_numbers file blocked seat s) a)
-  pub end : T (has (step_numbers file blocked seat s) b)
-
--- number j, and 2^k hops, which are as many as they are
-pub record DropReady (file blocked : List ℕ) (table : List ℤ) (seat : Seat) (s count k j : ℕ) (array : List ℕ) : Type 0 where
-  pub counted : StepCounted file blocked table seat s count array
-  pub enough : count ≤ 2 ^ k
-  pub below : j < count
+abbrev pub merged_of : Step → List ℕ
+merged_of step = step_merged step.search.now.ship.now step.search.now.blocked.now step.search.now.seat step.number

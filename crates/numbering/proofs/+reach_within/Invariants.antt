@@ -6,4 +6,4 @@ abbrev pub decreases-reach_within : goal.decreases-reach_within
 decreases-reach_within l = l.k
 
 abbrev pub invariant-midpoints : goal.invariant-midpoints
-invariant-midpoints l = Tried l.file l.blocked l.seat l.s l.k l.a l.b l.m
+invariant-midpoints l = Tried l.step.search.now.ship.now l.step.search.now.blocked.now l.step.search.now.seat l.step.number l.k l.a l.b l.m

@@ -1,9 +1,9 @@
 use borrow.Author.Rules.{rules}
-use Rattle.numbering.proofs.NumberLoop.{putting_more, putting}
+use Rattle.numbering.proofs.NumberLoop.{putting_all, putting_more, putting}
 use Rattle.numbering.proofs.put_numbers.Goals as goal
 
-pub returns-in-Ended : goal.returns-in-Ended
-returns-in-Ended c = search (putting, rules)
+pub returns : goal.returns
+returns c = search (putting, rules)
 
 pub overflow_mul-n : goal.overflow_mul-n
 overflow_mul-n c = search (putting, rules)
@@ -20,5 +20,8 @@ overflow_add-n c = search (putting, rules)
 -- by its paths: the search breaks off where the number is a wrong one
 pub candidates-preserved : goal.candidates-preserved
 candidates-preserved c =
-    let more = putting_more c.candidates.invariant.1.1 c.in-Reached.is c.after-next.ensures c.packed.ensures c.put_u32.ensures in
-    (search rules, (search rules, more))
+    let more = putting_more c.candidates.invariant.1 c.in-Reached.is c.after-next.ensures c.packed.ensures c.put_u32.ensures in
+    (search rules, more)
+
+pub candidates-init : goal.candidates-init
+candidates-init c = (search rules, putting_all c.args.step.now.search.now.ready c.args.step.now.counted c.requires c.first-next.ensures)
