@@ -16,11 +16,9 @@ use Rattle.words.proofs.Numbers.{length_words}
 use Rattle.words.proofs.Writing.{Rest, rest_all, rest_more_front, rest_front, length_bytes4, next_of}
 use Rattle.answers.specs.Questions.{looks_at, question20}
 use Rattle.answers.specs.Replies.{Replied}
-use Rattle.answers.proofs.Asking.{both_passed}
 use Rattle.answers.proofs.Replying.{replied_refused, replied_short, replied_written, room_short, room_fits}
-use Rattle.answers.specs.Checks.{Check}
 use Rattle.std.specs.Option.{unwrap_or}
-use Rattle.std.specs.Prelude.{Option, Some, None, Ok, Err, slice_get}
+use Rattle.std.specs.Prelude.{Option, Some, None, Result, Ok, Err, slice_get}
 use Rattle.answers.specs.declared.Refusal.{Refusal}
 use Rattle.answers.specs.declared.Refusal.TheVariants.{NoRoom}
 use Rattle.hits.specs.declared.Hit.{Hit}
@@ -29,6 +27,8 @@ use Rattle.ship.specs.Decode.{decode}
 use Rattle.ship.specs.Packed.{packed_of}
 use Rattle.ship.specs.Questions.{first_no}
 use Rattle.ship.proofs.Facts.{decks_few}
+use Rattle.decks.specs.Opened.{opened}
+use Rattle.decks.proofs.Opening.{opened_err, opened_ok}
 use Rattle.locating.specs.Locating.{location_of, packed_hit, hit_on, point_layer, point_location, point_check, layer_reply}
 use Rattle.locating.proofs.Probing.{hit_polygon}
 
@@ -172,47 +172,59 @@ module _ {file : List ℕ} {p : Vec2} {deck : ℕ} {list₀ list : List ℕ} {n 
 pub ruleset listing =
     (listing_all, listing_long, listing_count, listing_bytes, listing_other, listing_missed, listing_room, listing_more, listing_inside, listing_fits, listing_at, hit_small)
 
--- ---- a passed point
-pub point_passed : (file : List ℕ) (p : Vec2) {r : Check} → r ≡ point_check file p → r ≡ Ok tt → first_no file ≡ Ok tt
-unfolding point_check
-point_passed file p asked passed = (both_passed (first_no file) _ (sym asked ∙ passed)).0
-
--- ---- `get_point_layer`
-module _ (file : List ℕ) (p : Vec2) (deck : ℕ) {count : ℕ} (counted : count ≡ length (point_layer file p deck)) where
-  layer_long : length (words_of (point_layer file p deck)) ≡ 4 * count
-  layer_long = length_words (point_layer file p deck) ∙ rw counted
-
-  module _ {r : Check} (asked : r ≡ point_check file p) (passed : r ≡ Ok tt) (out : List ℕ) {fits : Bool} (room : fits ≡ question20 (4 * count) (length out)) where
-    pub layer_short : not fits ≡ true → Replied (layer_reply file p deck) out out (Err NoRoom)
-    layer_short no_room = replied_short asked passed (room_short (layer_reply file p deck) out 4 count layer_long room no_room)
-
-    module _ (has_room : not fits ≡ false) where
-      pub layer_room : 4 * count ≤ length out
-      layer_room = omega (arith, layer_long, room_fits (layer_reply file p deck) out 4 count layer_long room has_room)
-
-      pub layer_written : (list : List ℕ) {out' : List ℕ} → take (4 * count) list ≡ words_of (point_layer file p deck) → out' ≡ splice out 0 (take (4 * count) list)
-          → Replied (layer_reply file p deck) out out' (Ok count)
-      unfolding splice
-      layer_written list is put =
-          let fit = room_fits (layer_reply file p deck) out 4 count layer_long room has_room in
-          let start : 0 + length (words_of (point_layer file p deck)) ≡ length (words_of (point_layer file p deck)) = omega arith in
-          replied_written asked passed fit counted (put ∙ rw (is, start))
-
-pub ruleset layers = (point_passed, replied_refused, layer_short, layer_room, layer_written)
-
--- ---- `get_point_location`
 first_or : (l : List ℕ) (d : ℕ) → unwrap_or (slice_get l 0) d ≡ get_or l 0 d
 first_or [] d = refl
 first_or (x ∷ l) d = refl
 
-module _ (file : List ℕ) (p : Vec2) (deck : ℕ) {r : Check} (asked : r ≡ point_check file p) where
-  pub location_refused : {question : Refusal} → r ≡ Err question → Err question ≡ location_of file p deck
-  unfolding location_of
-  location_refused e = rw (sym asked ∙ e)
+-- ---- a point that was asked, and the ship that its questions opened
+module _ (file : List ℕ) (p : Vec2) (deck : ℕ) {r : Result (List ℕ) Refusal} (asked : r ≡ opened (point_check file p) file) where
+  module _ {refusal : Refusal} (e : r ≡ Err refusal) where
+    refused : point_check file p ≡ Err refusal
+    refused = opened_err (point_check file p) file (sym asked ∙ e)
 
-  pub location_found : {found : Option ℕ} {polygon : ℕ} → r ≡ Ok tt → found ≡ slice_get (point_layer file p deck) 0 → polygon ≡ unwrap_or found all_ones
-      → Ok polygon ≡ location_of file p deck
-  unfolding location_of point_location
-  location_found e f g = rw (sym asked ∙ e, g, f) (ap Ok (first_or (point_layer file p deck) all_ones))
+    pub layer_refused : {out : List ℕ} → Replied (layer_reply file p deck) out out (Err refusal)
+    layer_refused = replied_refused (sym refused) refl
 
-pub ruleset locations = (point_passed, location_refused, location_found)
+    pub location_refused : Err refusal ≡ location_of file p deck
+    unfolding location_of
+    location_refused = rw refused
+
+  module _ {ship : List ℕ} (e : r ≡ Ok ship) where
+    passed : (point_check file p ≡ Ok tt) × (ship ≡ file)
+    passed = opened_ok (point_check file p) file (sym asked ∙ e)
+
+    -- ---- `get_point_location`
+    pub location_found : {found : Option ℕ} {polygon : ℕ} → found ≡ slice_get (point_layer ship p deck) 0 → polygon ≡ unwrap_or found all_ones
+        → Ok polygon ≡ location_of file p deck
+    unfolding location_of point_location
+    location_found f g = rw (passed.0, g, f, passed.1) (ap Ok (first_or (point_layer file p deck) all_ones))
+
+    -- ---- `get_point_layer`
+    module _ {count : ℕ} (counted : count ≡ length (point_layer ship p deck)) where
+      count_is : count ≡ length (point_layer file p deck)
+      count_is = rw passed.1 at counted
+
+      layer_long : length (words_of (point_layer file p deck)) ≡ 4 * count
+      layer_long = length_words (point_layer file p deck) ∙ rw count_is
+
+      module _ (out : List ℕ) {fits : Bool} (room : fits ≡ question20 (4 * count) (length out)) where
+        pub layer_short : not fits ≡ true → Replied (layer_reply file p deck) out out (Err NoRoom)
+        layer_short no_room = replied_short refl passed.0 (room_short (layer_reply file p deck) out 4 count layer_long room no_room)
+
+        module _ (has_room : not fits ≡ false) where
+          fit : length (words_of (point_layer file p deck)) ≤ length out
+          fit = room_fits (layer_reply file p deck) out 4 count layer_long room has_room
+
+          pub layer_room : 4 * count ≤ length out
+          layer_room = omega (arith, layer_long, fit)
+
+          pub layer_written : (list : List ℕ) {out' : List ℕ} → take (4 * count) list ≡ words_of (point_layer ship p deck)
+              → out' ≡ splice out 0 (take (4 * count) list) → Replied (layer_reply file p deck) out out' (Ok count)
+          unfolding splice
+          layer_written list is put =
+              let start : 0 + length (words_of (point_layer file p deck)) ≡ length (words_of (point_layer file p deck)) = omega arith in
+              replied_written refl passed.0 fit count_is (put ∙ rw (is, passed.1, start))
+
+pub ruleset layers = (layer_refused, layer_short, layer_room, layer_written)
+
+pub ruleset locations = (location_refused, location_found)

@@ -1,27 +1,28 @@
 -- The nine probes of a deck: the loop over them, what they find on a deck of a passed file, and how large its number is.
 use Prim.Native.Nat.{ℕ, zero, suc, ◌+◌, ◌-◌, ◌≤◌, ◌<◌, ◌^◌}
 use mathlib.Core.Path.{◌≡◌, refl, sym, ap, ◌∙◌}
-use mathlib.Core.Bool.{Bool, true, false, cond}
+use mathlib.Core.Bool.{Bool, true, false, cond, not}
 use mathlib.Core.List.{List}
 use native.Mathlib.Omega.{arith}
 use lib.ListN.{length}
 use lib.Ieee.{Float}
 use Rattle.geometry.specs.declared.Vec2.{Vec2}
-use Rattle.geometry.specs.Plane.{sub_of}
 use Rattle.ring.specs.Probe.{probe_of}
-use Rattle.answers.specs.Checks.{ask, after, Check}
-use Rattle.answers.proofs.Asking.{asking}
-use Rattle.std.specs.Prelude.{Option, Some, None, Ok}
+use Rattle.answers.specs.declared.Refusal.{Refusal}
+use Rattle.answers.proofs.Asking.{said_no, said_yes}
+use Rattle.std.specs.Prelude.{Option, Some, None, Result, Ok, Err}
 use Rattle.answers.specs.declared.Refusal.TheVariants.{CallFloatOutOfRange}
 use Rattle.hits.specs.declared.Hit.{Hit}
 use Rattle.hits.specs.Candidates.{hit as hit_at}
 use Rattle.hits.specs.Hits.{or_else, polygon_hit, sample_hit}
 use Rattle.hits.proofs.HitLoops.{polygon_hit_same, sample_hit_yes, sample_hit_no, sample_hit_none}
 use Rattle.ship.specs.Layout.{decks_in}
-use Rattle.ship.specs.Model.{Deck, deck_of}
+use Rattle.ship.specs.Model.{Deck}
 use Rattle.ship.specs.Decode.{decode}
 use Rattle.ship.specs.Questions.{first_no}
 use Rattle.ship.proofs.ModelFacts.{deck_of_within}
+use Rattle.decks.specs.Opened.{opened}
+use Rattle.decks.proofs.Opening.{opened_err, opened_ok}
 use Rattle.search.specs.OnDeck.{passes_at, next_hit}
 use Rattle.calls.specs.Closest.{question16}
 use Rattle.locating.specs.Locating.{probe_hit, hit_on, point_check}
@@ -81,21 +82,27 @@ sample_below passes polygons i (suc n) {h} e = go (polygon_hit passes i 0 polygo
     go (Some found) f e' later = omega (arith, polygon_below passes i 0 polygons (f ∙ e'))
     go None f e' later = later e'
 
--- ---- `hit_on`
-pub hit_is : (file : List ℕ) (p : Vec2) (d : ℕ) {deck : Deck} {o around : Vec2} {reach : Float} {hit : Option Hit} → deck ≡ deck_of (decode file) d → o ≡ deck.offset
-    → around ≡ sub_of p o → reach ≡ (decode file).reach → hit ≡ probe_hit deck around reach → hit ≡ hit_on (decode file) p d
-unfolding hit_on
-hit_is file p d is eo ea er e = e ∙ rw (ea, eo, er, is)
-
--- so it can be packed
+-- ---- `hit_on`: its polygon can be packed
 pub hit_polygon : (file : List ℕ) → first_no file ≡ Ok tt → {d : ℕ} → d < decks_in file → (p : Vec2) {hit : Option Hit} {h : Hit} → hit ≡ hit_on (decode file) p d
     → hit ≡ Some h → h.polygon < 2 ^ 24
 unfolding hit_on probe_hit
 hit_polygon file passed {d} there p is e = omega (arith, sample_below _ _ 0 9 (sym is ∙ e), (deck_of_within file d passed there).few_polygons)
 
 -- ---- `point_check`
-pub point_is : (file : List ℕ) (p : Vec2) {v : Check} → v ≡ after (first_no file) (ask (question16 p) CallFloatOutOfRange (Ok tt)) → v ≡ point_check file p
-unfolding point_check
-point_is file p e = e
+module _ (file : List ℕ) (p : Vec2) {opening : Result (List ℕ) Refusal} (asked : opening ≡ opened (first_no file) file) where
+  pub file_refused : {refusal : Refusal} → opening ≡ Err refusal → Err refusal ≡ opened (point_check file p) file
+  unfolding point_check
+  file_refused e = rw (opened_err (first_no file) file (sym asked ∙ e))
 
-pub ruleset points = (asking, point_is)
+  module _ {ship : List ℕ} (passed : opening ≡ Ok ship) {sized : Bool} (said : sized ≡ question16 p) where
+    pub point_refused : not sized ≡ true → Err CallFloatOutOfRange ≡ opened (point_check file p) file
+    unfolding point_check
+    point_refused n = rw ((opened_ok (first_no file) file (sym asked ∙ passed)).0, said_no said n)
+
+    pub point_opened : not sized ≡ false → Ok ship ≡ opened (point_check file p) file
+    unfolding point_check
+    point_opened y =
+        let o = opened_ok (first_no file) file (sym asked ∙ passed) in
+        rw (o.0, said_yes said y, o.1)
+
+pub ruleset points = (file_refused, point_refused, point_opened)

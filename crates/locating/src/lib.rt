@@ -6,11 +6,11 @@ ghost use Rattle.words.specs.Bytes.{words_of};
 ghost use Rattle.ship.specs.Layout.{decks_in};
 ghost use Rattle.answers.specs.Replies.{code_of};
 ghost use Rattle.ship.specs.Decode.{decode};
-ghost use Rattle.ship.specs.Questions.{first_no};
+ghost use Rattle.decks.specs.Opened.{opened};
 ghost use Rattle.locating.specs.Locating.{probe_hit, hit_on, point_layer, point_check, location_of, LayerReplied};
 
-use answers::{Answer, Check, Refusal};
-use decks::Deck;
+use answers::{Answer, Refusal};
+use decks::{Deck, Ship};
 use geometry::Vec2;
 use hits::Hit;
 use ship::NUMBER_SIZE;
@@ -30,34 +30,34 @@ fn probe_hit(deck: &Deck<'_>, p: Vec2, reach: f32) -> Option<Hit>
 }
 
 // The same on deck d.
-fn hit_on(file: &[u8], p: Vec2, d: usize) -> Option<Hit>
-    requires { (first_no file.now ≡ Ok tt) × (d < decks_in file.now) }
-    ensures { result ≡ hit_on (decode file.now) p d }
+#[tactic(auto, unfolding(crate::specs::Locating::hit_on))]
+fn hit_on(ship: &Ship<'_>, p: Vec2, d: usize) -> Option<Hit>
+    requires { d < decks_in ship.now }
+    ensures { result ≡ hit_on (decode ship.now) p d }
 {
-    let deck = Deck::of(file, d);
-    probe_hit(&deck, p - deck.offset(), decks::reach(file))
+    let deck = ship.deck(d);
+    probe_hit(&deck, p - deck.offset(), ship.reach())
 }
 
 // Questions 1 to 16 of a point.
-fn point_check(file: &[u8], p: Vec2) -> Check
-    ensures { result ≡ point_check file.now p }
+fn point_check(file: &[u8], p: Vec2) -> Result<Ship<'_>, Refusal>
+    ensures { result ≡ opened (point_check file.now p) file.now }
 {
-    ship::first_no(file)?;
+    let ship = Ship::open(file)?;
     if !calls::place_in_size(p) {
         return Err(Refusal::CallFloatOutOfRange);
     }
-    Ok(())
+    Ok(ship)
 }
 
 // The polygon on the first deck that has one.
-fn locate(file: &[u8], p: Vec2, deck: u32) -> Option<u32>
-    requires { first_no file.now ≡ Ok tt }
-    ensures { result ≡ slice_get (point_layer file.now p deck) 0 }
+fn locate(ship: &Ship<'_>, p: Vec2, deck: u32) -> Option<u32>
+    ensures { result ≡ slice_get (point_layer ship.now p deck) 0 }
 {
-    let count = decks::deck_count(file);
+    let count = ship.deck_count();
     'decks: for d in 0..count {
         if answers::looks_at(deck, d) {
-            if let Some(hit) = hit_on(file, p, d) {
+            if let Some(hit) = hit_on(ship, p, d) {
                 return Some(decks::packed(d, hit.polygon));
             }
         }
@@ -69,23 +69,23 @@ fn locate(file: &[u8], p: Vec2, deck: u32) -> Option<u32>
 pub fn get_point_location(file: &[u8], p: Vec2, deck: u32) -> Result<u32, Refusal>
     ensures { result ≡ location_of file.now p deck }
 {
-    point_check(file, p)?;
-    Ok(locate(file, p, deck).unwrap_or(words::ALL_ONES))
+    let ship = point_check(file, p)?;
+    Ok(locate(&ship, p, deck).unwrap_or(words::ALL_ONES))
 }
 
 // The polygons of all decks that have one, at the front of a list with room for one a deck. How many they are is returned.
-fn list_layers(file: &[u8], p: Vec2, deck: u32, list: &mut [u8]) -> usize
-    requires { (first_no file.now ≡ Ok tt) × (1024 ≤ length list.old) }
-    ensures { (result ≡ length (point_layer file.now p deck)) × ((4 * result ≤ length list.new)
-        × (take (4 * result) list.new ≡ words_of (point_layer file.now p deck))) }
+fn list_layers(ship: &Ship<'_>, p: Vec2, deck: u32, list: &mut [u8]) -> usize
+    requires { 1024 ≤ length list.old }
+    ensures { (result ≡ length (point_layer ship.now p deck)) × ((4 * result ≤ length list.new)
+        × (take (4 * result) list.new ≡ words_of (point_layer ship.now p deck))) }
 {
-    let count = decks::deck_count(file);
+    let count = ship.deck_count();
     let mut n: usize = 0;
     'decks: for d in 0..count {
         if !answers::looks_at(deck, d) {
             continue;
         }
-        let Some(hit) = hit_on(file, p, d) else {
+        let Some(hit) = hit_on(ship, p, d) else {
             continue;
         };
         words::put_u32(list, NUMBER_SIZE * n, decks::packed(d, hit.polygon));
@@ -98,9 +98,10 @@ fn list_layers(file: &[u8], p: Vec2, deck: u32, list: &mut [u8]) -> usize
 pub fn get_point_layer(file: &[u8], p: Vec2, deck: u32, out: &mut [u8]) -> Answer
     ensures { LayerReplied file.now p deck out.old out.new result }
 {
-    point_check(file, p)?;
+    let ship = point_check(file, p)?;
+    // Room for a number a deck, of which there are at most 256: no heap is needed.
     let mut list = [0u8; 1024];
-    let count = list_layers(file, p, deck, &mut list);
+    let count = list_layers(&ship, p, deck, &mut list);
     if !answers::room_for(NUMBER_SIZE, count, out.len()) {
         return Err(Refusal::NoRoom);
     }

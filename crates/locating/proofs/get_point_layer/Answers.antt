@@ -4,17 +4,14 @@ use Rattle.locating.proofs.DeckLoop.{layers}
 use Rattle.answers.proofs.Asking.{handed_on}
 use Rattle.locating.proofs.get_point_layer.Goals as goal
 
-pub returns-in_err-point_check : goal.returns-in_err-point_check
-returns-in_err-point_check c = search (c.in_err-point_check.was, handed_on c.from_residual.ensures.1, layers, rules)
-
-pub list_layers-count-requires : goal.list_layers-count-requires
-list_layers-count-requires c = search (c.in_ok-point_check.was, layers, rules)
+pub returns-in_err-ship : goal.returns-in_err-ship
+returns-in_err-ship c = search (c.in_err-ship.was, handed_on c.from_residual.ensures.1, layers, rules)
 
 pub returns-then-not-room_for : goal.returns-then-not-room_for
-returns-then-not-room_for c = search (c.in_ok-point_check.was, layers, rules)
+returns-then-not-room_for c = search (c.in_ok-ship.was, layers, rules)
 
 pub put_front-requires : goal.put_front-requires
-put_front-requires c = search (c.in_ok-point_check.was, layers, rules)
+put_front-requires c = search (c.in_ok-ship.was, layers, rules)
 
 pub returns : goal.returns
-returns c = search (c.in_ok-point_check.was, layers, rules)
+returns c = search (c.in_ok-ship.was, layers, rules)

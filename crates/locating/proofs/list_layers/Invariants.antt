@@ -3,4 +3,4 @@ use Rattle.locating.proofs.DeckLoop.{Listing}
 use Rattle.locating.proofs.list_layers.Given as goal
 
 abbrev pub invariant-decks : goal.invariant-decks
-invariant-decks l = Listing l.file l.p l.deck l.initial.list l.list l.n l.d
+invariant-decks l = Listing l.ship l.p l.deck l.initial.list l.list l.n l.d

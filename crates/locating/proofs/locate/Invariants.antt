@@ -3,4 +3,4 @@ use Rattle.locating.proofs.DeckLoop.{Seeking}
 use Rattle.locating.proofs.locate.Given as goal
 
 abbrev pub invariant-decks : goal.invariant-decks
-invariant-decks l = Seeking l.file l.p l.deck l.d
+invariant-decks l = Seeking l.ship l.p l.deck l.d
