@@ -1,17 +1,14 @@
--- The nine probes of a deck: the loop over them, what they find on a deck of a passed file, and how large its number is.
+-- The nine probes of a deck: the loop over them, and how large the number of a polygon is that they find on a deck of a passed file.
 use Prim.Native.Nat.{ℕ, zero, suc, ◌+◌, ◌-◌, ◌≤◌, ◌<◌, ◌^◌}
 use mathlib.Core.Path.{◌≡◌, refl, sym, ap, ◌∙◌}
-use mathlib.Core.Bool.{Bool, true, false, cond, not}
+use mathlib.Core.Bool.{Bool, true, false, cond}
 use mathlib.Core.List.{List}
 use native.Mathlib.Omega.{arith}
 use lib.ListN.{length}
 use lib.Ieee.{Float}
 use Rattle.geometry.specs.declared.Vec2.{Vec2}
 use Rattle.ring.specs.Probe.{probe_of}
-use Rattle.answers.specs.declared.Refusal.{Refusal}
-use Rattle.answers.proofs.Asking.{said_no, said_yes}
-use Rattle.std.specs.Prelude.{Option, Some, None, Result, Ok, Err}
-use Rattle.answers.specs.declared.Refusal.TheVariants.{CallFloatOutOfRange}
+use Rattle.std.specs.Prelude.{Option, Some, None, Ok}
 use Rattle.hits.specs.declared.Hit.{Hit}
 use Rattle.hits.specs.Candidates.{hit as hit_at}
 use Rattle.hits.specs.Hits.{or_else, polygon_hit, sample_hit}
@@ -21,11 +18,8 @@ use Rattle.ship.specs.Model.{Deck}
 use Rattle.ship.specs.Decode.{decode}
 use Rattle.ship.specs.Questions.{first_no}
 use Rattle.ship.proofs.ModelFacts.{deck_of_within}
-use Rattle.decks.specs.Opened.{opened}
-use Rattle.decks.proofs.Opening.{opened_err, opened_ok}
 use Rattle.search.specs.OnDeck.{passes_at, next_hit}
-use Rattle.calls.specs.Closest.{question16}
-use Rattle.locating.specs.Locating.{probe_hit, hit_on, point_check}
+use Rattle.locating.specs.Locating.{probe_hit, hit_on}
 
 -- ---- `probe_hit`: the probes before i missed
 abbrev passes_at_probe : Deck → Vec2 → Float → ℕ → ℕ → Bool
@@ -87,22 +81,3 @@ pub hit_polygon : (file : List ℕ) → first_no file ≡ Ok tt → {d : ℕ} �
     → hit ≡ Some h → h.polygon < 2 ^ 24
 unfolding hit_on probe_hit
 hit_polygon file passed {d} there p is e = omega (arith, sample_below _ _ 0 9 (sym is ∙ e), (deck_of_within file d passed there).few_polygons)
-
--- ---- `point_check`
-module _ (file : List ℕ) (p : Vec2) {opening : Result (List ℕ) Refusal} (asked : opening ≡ opened (first_no file) file) where
-  pub file_refused : {refusal : Refusal} → opening ≡ Err refusal → Err refusal ≡ opened (point_check file p) file
-  unfolding point_check
-  file_refused e = rw (opened_err (first_no file) file (sym asked ∙ e))
-
-  module _ {ship : List ℕ} (passed : opening ≡ Ok ship) {sized : Bool} (said : sized ≡ question16 p) where
-    pub point_refused : not sized ≡ true → Err CallFloatOutOfRange ≡ opened (point_check file p) file
-    unfolding point_check
-    point_refused n = rw ((opened_ok (first_no file) file (sym asked ∙ passed)).0, said_no said n)
-
-    pub point_opened : not sized ≡ false → Ok ship ≡ opened (point_check file p) file
-    unfolding point_check
-    point_opened y =
-        let o = opened_ok (first_no file) file (sym asked ∙ passed) in
-        rw (o.0, said_yes said y, o.1)
-
-pub ruleset points = (file_refused, point_refused, point_opened)

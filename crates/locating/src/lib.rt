@@ -40,6 +40,7 @@ fn hit_on(ship: &Ship<'_>, p: Vec2, d: usize) -> Option<Hit>
 }
 
 // Questions 1 to 16 of a point.
+#[tactic(auto, using(answers::proofs::Asking::handed_on), unfolding(crate::specs::Locating::point_check))]
 fn point_check(file: &[u8], p: Vec2) -> Result<Ship<'_>, Refusal>
     ensures { result ≡ opened (point_check file.now p) file.now }
 {

@@ -1,42 +1,23 @@
--- The questions of a call: from what the calls returned and the tests found to the answer, and from a passed call to what its search needs.
+-- The questions of a call: from a passed call to what its search needs.
 use Prim.Native.Nat.{ℕ}
 use mathlib.Core.Path.{◌≡◌}
 use mathlib.Core.Bool.{true, false}
 use mathlib.Core.List.{List}
-use lib.Ieee.{Float, eq}
+use lib.Ieee.{eq}
 use borrow.Author.Tests.{not-true}
 use Rattle.geometry.specs.declared.Vec2.{Vec2}
 use Rattle.geometry.specs.Plane.{zero32}
 use Rattle.geometry.specs.Bounds.{PointWithin}
 use Rattle.direction.specs.Direction.{squared_distance}
-use Rattle.answers.specs.Checks.{ask, after, Check}
 use Rattle.answers.specs.Questions.{question17}
-use Rattle.answers.proofs.Asking.{asking, asked_yes, both_passed}
+use Rattle.answers.proofs.Asking.{asked_yes, both_passed}
 use Rattle.std.specs.Prelude.{Ok}
 use Rattle.answers.specs.declared.Refusal.TheVariants.{CallFloatOutOfRange, NoSuchDeck, NoDirection}
 use Rattle.ship.specs.Layout.{decks_in}
 use Rattle.ship.specs.Questions.{first_no}
 use Rattle.calls.specs.Closest.{question16}
-use Rattle.calls.proofs.Queries.{size_of_place, named_in}
+use Rattle.calls.proofs.Queries.{size_of_place}
 use Rattle.towards.specs.Towards.{question22, towards_check}
-
--- ---- `towards_check`
-pub towards_is : (file : List ℕ) (p towards : Vec2) (deck : ℕ) {v : Check}
-    → v ≡ after (first_no file) (ask (question16 p) CallFloatOutOfRange (ask (question16 towards) CallFloatOutOfRange (ask (question17 (decks_in file) deck) NoSuchDeck (ask (question22 p towards) NoDirection (Ok tt)))))
-    → v ≡ towards_check file p towards deck
-unfolding towards_check
-towards_is file p towards deck e = e
-
-module _ (p towards : Vec2) {squared : Float} (is : squared ≡ squared_distance p towards) where
-  pub level_no : eq squared zero32 ≡ true → question22 p towards ≡ false
-  unfolding question22
-  level_no e = rw (← is, e)
-
-  pub apart_yes : eq squared zero32 ≡ false → question22 p towards ≡ true
-  unfolding question22
-  apart_yes e = rw (← is, e)
-
-pub ruleset asks = (asking, towards_is, named_in, level_no, apart_yes)
 
 -- ---- a passed call
 pub record TowardsPassed (file : List ℕ) (p towards : Vec2) (deck : ℕ) : Type 0 where

@@ -10,10 +10,9 @@ use Rattle.geometry.specs.declared.Vec2.{Vec2}
 use Rattle.words.specs.Rows.{collect, collect_all}
 use Rattle.words.proofs.Collecting.{In, collect_yes, collect_no, collect_none}
 use Rattle.answers.specs.Questions.{looks_at}
-use Rattle.std.specs.Prelude.{Option, Some, None, Ok}
+use Rattle.std.specs.Prelude.{Option, Some, None}
 use Rattle.ship.specs.Layout.{decks_in}
 use Rattle.ship.specs.Decode.{decode}
-use Rattle.ship.specs.Questions.{first_no}
 use Rattle.ship.proofs.ModelFacts.{decks_length}
 use Rattle.towards.specs.declared.Place.{Place}
 use Rattle.towards.specs.Towards.{deck_gives, step_gives, all_given, first_of, TurnReady}
@@ -89,8 +88,8 @@ pub decks_start : (file : List ℕ) (p direction : Vec2) (deck s : ℕ) → Deck
 unfolding step_gives
 decks_start file p direction deck s = record { same = let e : decks_in file - 0 ≡ decks_in file = omega arith in rw (e, decks_length file) }
 
-pub deck_turn : {file : List ℕ} {s d count : ℕ} → first_no file ≡ Ok tt → s < 16 → count ≡ decks_in file → d < count → TurnReady file s d
-deck_turn passed few all l = record { file_passed = passed; deck = omega arith; step = few }
+pub deck_turn : {file : List ℕ} {s d count : ℕ} → s < 16 → count ≡ decks_in file → d < count → TurnReady file s d
+deck_turn few all l = record { deck = omega arith; step = few }
 
 pub ruleset seeking_decks = (decks_start, deck_turn, seeking_none, seeking_other, seeking_missed, seeking_found)
 

@@ -134,7 +134,7 @@ module _ (file : List ℕ) (p towards : Vec2) (deck : ℕ) (out : List ℕ) wher
 
   surveyed_call : SnapSurveyed file p towards deck (answer_to (towards_reply file p towards deck) out) (output_to (towards_reply file p towards deck) out)
   surveyed_call =
-      of_reply (towards_reply file p towards deck) out (λ r. SnapSurveyed file p towards deck r (output_to (towards_reply file p towards deck) out)) (λ number. tt) holds
+      of_reply (towards_reply file p towards deck) out (λ r. SnapSurveyed file p towards deck r (output_to (towards_reply file p towards deck) out)) (λ refusal. tt) holds
 
   module _ {out' : List ℕ} {r : Answer} (h : Replied (towards_reply file p towards deck) out out' r) where
     pub snapped : SnapSurveyed file p towards deck r out'

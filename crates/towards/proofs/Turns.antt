@@ -1,16 +1,13 @@
--- A deck's turn in a step, as the readers read it: its sample, the first polygon that passes there, and the place's point and entry.
+-- A deck's turn in a step: the first polygon that passes at its sample, and the place's point and entry.
 use Prim.Native.Nat.{ℕ, zero, suc, ◌+◌, ◌-◌, ◌*◌, ◌<◌, ◌≤◌, ◌^◌}
 use mathlib.Core.Path.{◌≡◌, refl, sym, ◌∙◌}
 use mathlib.Core.Bool.{Bool, true, false, not, cond}
 use mathlib.Core.List.{List, [], ◌∷◌}
 use native.Mathlib.Omega.{arith}
 use lib.ListN.{length}
-use lib.Ieee.{Float}
 use Rattle.geometry.specs.declared.Vec2.{Vec2}
-use Rattle.geometry.specs.Plane.{add_of, sub_of}
 use Rattle.geometry.specs.Bounds.{PointWithin}
 use Rattle.geometry.proofs.Bounds.{held, by_test}
-use Rattle.ring.specs.Sample.{along_of}
 use Rattle.ring.proofs.SampleBounds.{Bounding, place_along}
 use Rattle.words.specs.Bytes.{bytes4, joined, splice}
 use Rattle.words.specs.Rows.{collect}
@@ -26,6 +23,7 @@ use Rattle.hits.specs.Hits.{polygon_hit}
 use Rattle.ship.specs.Model.{Deck, Ship, deck_of}
 use Rattle.ship.specs.Decode.{decode}
 use Rattle.ship.specs.Packed.{packed_of}
+use Rattle.ship.specs.Questions.{first_no}
 use Rattle.ship.proofs.Facts.{decks_few}
 use Rattle.ship.proofs.ModelFacts.{deck_of_within, decode_reach}
 use Rattle.search.specs.OnDeck.{next_hit}
@@ -51,34 +49,22 @@ first_passing_lem passes s d k (suc n) = go (passes k) (first_passing_lem passes
     go true e = refl
     go false e = e
 
-module _ (file : List ℕ) (p direction : Vec2) (s d : ℕ) {deck : Deck} (is : deck ≡ deck_of (decode file) d) where
-  -- ---- `sample_on`
-  pub sample_is : {o around q : Vec2} {reach : Float} → o ≡ deck.offset → around ≡ sub_of p o → reach ≡ (decode file).reach
-      → q ≡ along_of around direction reach s → q ≡ sample_towards (decode file) p direction s d
-  unfolding sample_towards
-  sample_is eo ea er e = e ∙ rw (ea, eo, er, is)
+-- ---- `deck_hit`
+module _ (file : List ℕ) (p direction : Vec2) (s d : ℕ) {deck : Deck} (is : deck ≡ deck_of (decode file) d) {q : Vec2}
+    (at : q ≡ sample_towards (decode file) p direction s d) {hit : Option Hit} (found : hit ≡ next_hit deck q s 0) where
+  first_is : found_on s d hit ≡ first_of (deck_gives (decode file) p direction s d)
+  unfolding next_hit
+  first_is =
+      let e : length (deck_of (decode file) d).polygons - 0 ≡ length (deck_of (decode file) d).polygons = omega arith in
+      rw (found, at, is, e) (sym (first_passing_lem (passes_towards (decode file) p direction s d) s d 0 (length (deck_of (decode file) d).polygons)))
 
-  module _ {q : Vec2} (at : q ≡ sample_towards (decode file) p direction s d) where
-    -- ---- `point_of`
-    pub point_is : {o point : Vec2} → o ≡ deck.offset → point ≡ add_of q o → point ≡ point_towards (decode file) p direction s d
-    unfolding point_towards
-    point_is eo e = e ∙ rw (at, eo, is)
+  pub deck_missed : hit ≡ None → None ≡ first_of (deck_gives (decode file) p direction s d)
+  deck_missed e = rw e at first_is
 
-    -- ---- `deck_hit`
-    module _ {hit : Option Hit} (found : hit ≡ next_hit deck q s 0) where
-      first_is : found_on s d hit ≡ first_of (deck_gives (decode file) p direction s d)
-      unfolding next_hit
-      first_is =
-          let e : length (deck_of (decode file) d).polygons - 0 ≡ length (deck_of (decode file) d).polygons = omega arith in
-          rw (found, at, is, e) (sym (first_passing_lem (passes_towards (decode file) p direction s d) s d 0 (length (deck_of (decode file) d).polygons)))
+  pub deck_found : {h : Hit} → hit ≡ Some h → Some (place_at s d h.polygon) ≡ first_of (deck_gives (decode file) p direction s d)
+  deck_found e = rw e at first_is
 
-      pub deck_missed : hit ≡ None → None ≡ first_of (deck_gives (decode file) p direction s d)
-      deck_missed e = rw e at first_is
-
-      pub deck_found : {h : Hit} → hit ≡ Some h → Some (place_at s d h.polygon) ≡ first_of (deck_gives (decode file) p direction s d)
-      deck_found e = rw e at first_is
-
-pub ruleset turns = (sample_is, point_is, deck_missed, deck_found)
+pub ruleset turns = (deck_missed, deck_found)
 
 -- ---- entries
 length_place : (ship : Ship) (p direction : Vec2) (c : Place) → length (place_bytes ship p direction c) ≡ entry_size
@@ -97,16 +83,19 @@ module _ (file : List ℕ) (p direction : Vec2) {c : Place} (ready : PlaceReady 
   pub ready_turn : TurnReady file c.step c.deck
   ready_turn = ready.turn_ready
 
-  pub ready_packed : (c.deck < 256) × (c.polygon < 2 ^ 24)
-  ready_packed = (omega (arith, ready.turn_ready.deck, decks_few file ready.turn_ready.file_passed), ready.polygon)
+  pub ready_deck : first_no file ≡ Ok tt → c.deck < 256
+  ready_deck passed = omega (arith, ready.turn_ready.deck, decks_few file passed)
+
+  pub ready_polygon : c.polygon < 2 ^ 24
+  ready_polygon = ready.polygon
 
   -- no sample and no place is a NaN or infinite
-  pub ready_point : {point : Vec2} → point ≡ point_towards (decode file) p direction c.step c.deck → PointWithin 3030000 point
+  pub ready_point : first_no file ≡ Ok tt → {point : Vec2} → point ≡ point_towards (decode file) p direction c.step c.deck → PointWithin 3030000 point
   unfolding point_towards sample_towards
-  ready_point at =
+  ready_point passed at =
       let turn = ready.turn_ready in
-      let within = deck_of_within file c.deck turn.file_passed turn.deck in
-      rw at (place_along bounds_towards ready.direction_within (decode_reach file turn.file_passed) turn.step ready.point_within within.offset)
+      let within = deck_of_within file c.deck passed turn.deck in
+      rw at (place_along bounds_towards ready.direction_within (decode_reach file passed) turn.step ready.point_within within.offset)
 
   entry_long : length (place_reply file p direction c).bytes ≡ entry_size * 1
   entry_long = length_places (decode file) p direction (c ∷ [])
@@ -126,4 +115,4 @@ module _ (file : List ℕ) (p direction : Vec2) {c : Place} (ready : PlaceReady 
       place_written at packed put =
           replied_written refl refl (room_fits (place_reply file p direction c) out entry_size 1 entry_long room has_room) refl (put ∙ rw (at, packed))
 
-pub ruleset placing = (ready_turn, ready_packed, ready_point, place_short, place_room, place_written)
+pub ruleset placing = (ready_turn, ready_deck, ready_polygon, ready_point, place_short, place_room, place_written)

@@ -1,5 +1,5 @@
--- Document 02, point 2, of bytes: when a place is missing, where it is otherwise, and that more steps keep it. Nothing here searches: a step hits on
--- a deck or it does not, and the call with more steps is known by its reply.
+-- Document 02, point 2, of bytes: when a place is missing, where it is otherwise, and that more steps keep it. Nothing here searches:
+-- a step hits on a deck or it does not, and the call with more steps is known by its reply.
 use Rattle.std.specs.Prelude.{ℕ, ◌≤◌, ◌<◌, ◌≡◌, ◌↔◌, List, T, length, take, Ok, Err}
 use Rattle.geometry.specs.declared.Vec2.{Vec2}
 use Rattle.direction.specs.Direction.{direction_of}
@@ -44,7 +44,7 @@ module _ (ship : Ship) (p direction : Vec2) where
 
 -- What holds of a call on these bytes that answered so and left this output. A refused call says nothing of places.
 abbrev pub SnapSurveyed : List ℕ → Vec2 → Vec2 → ℕ → Answer → List ℕ → Type 0
-SnapSurveyed file p towards deck (Err number) out = Unit {0}
+SnapSurveyed file p towards deck (Err refusal) out = Unit {0}
 SnapSurveyed file p towards deck (Ok n) out =
     ((n ≡ 0) ↔ NoHit (decode file) p (direction_of p towards) deck (steps_in file))
     × ((n ≡ 0 → ⊥) → (n ≡ 1) × Snapped (decode file) p (direction_of p towards) deck (steps_in file) (take entry_size out))

@@ -1,5 +1,5 @@
 -- Document 02, point 2: `get_closest_point_towards`, its search, its questions and its entry.
-use Rattle.std.specs.Prelude.{ℕ, ◌<◌, ◌^◌, ◌≡◌, Bool, not, List, [], ◌∷◌, ℤ, length, take, Option, Some, None, Ok}
+use Rattle.std.specs.Prelude.{ℕ, ◌<◌, ◌^◌, Bool, not, List, [], ◌∷◌, ℤ, length, take, Option, Some, None, Ok}
 use Rattle.std.specs.Float.Ieee.{eq}
 use Rattle.geometry.specs.declared.Vec2.{Vec2}
 use Rattle.geometry.specs.Plane.{zero32, add_of, sub_of}
@@ -69,14 +69,18 @@ question22 p towards = not (eq (squared_distance p towards) zero32)
 unfoldable pub towards_check : List ℕ → Vec2 → Vec2 → ℕ → Check
 towards_check file p towards deck =
     after (first_no file)
-    (ask (question16 p) CallFloatOutOfRange (ask (question16 towards) CallFloatOutOfRange (ask (question17 (decks_in file) deck) NoSuchDeck (ask (question22 p towards) NoDirection (Ok tt)))))
+    (ask (question16 p) CallFloatOutOfRange
+    (ask (question16 towards) CallFloatOutOfRange
+    (ask (question17 (decks_in file) deck) NoSuchDeck (ask (question22 p towards) NoDirection (Ok tt)))))
 
 unfoldable pub closest_towards : List ℕ → Vec2 → Vec2 → ℕ → List Place
 closest_towards file p towards deck = place_towards (decode file) p (direction_of p towards) deck
 
 abbrev pub towards_reply : List ℕ → Vec2 → Vec2 → ℕ → Reply
 towards_reply file p towards deck =
-    reply_of (towards_check file p towards deck) (place_bytes (decode file) p (direction_of p towards)) (closest_towards file p towards deck)
+    reply_of (towards_check file p towards deck)
+    (place_bytes (decode file) p (direction_of p towards))
+    (closest_towards file p towards deck)
 
 -- what the call promises, and over C
 abbrev pub TowardsReplied : List ℕ → Vec2 → Vec2 → ℕ → List ℕ → List ℕ → Answer → Type 0
@@ -86,9 +90,8 @@ abbrev pub TowardsCode : List ℕ → Vec2 → Vec2 → ℕ → List ℕ → Lis
 TowardsCode file p towards deck out out' r = RepliedCode (towards_reply file p towards deck) out out' r
 
 -- ---- what the functions of the search need
--- a passed file, and deck d's turn in step s
+-- deck d's turn in step s
 pub record TurnReady (file : List ℕ) (s d : ℕ) : Type 0 where
-  pub file_passed : first_no file ≡ Ok tt
   pub deck : d < decks_in file
   pub step : s < 16
 

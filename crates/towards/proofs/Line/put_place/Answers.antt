@@ -1,7 +1,7 @@
 -- `put_place` meets its contract.
 use borrow.Author.Rules.{rules}
 use Rattle.towards.proofs.Turns.{placing}
-use Rattle.towards.proofs.put_place.Goals as goal
+use Rattle.towards.proofs.Line.put_place.Goals as goal
 
 pub returns-then-not-room_for : goal.returns-then-not-room_for
 returns-then-not-room_for c = search (placing, rules)

@@ -1,6 +1,6 @@
 use borrow.Author.Rules.{rules}
 use Rattle.towards.proofs.Seeks.{seeking_steps}
-use Rattle.towards.proofs.first_hit.Goals as goal
+use Rattle.towards.proofs.Line.first_hit.Goals as goal
 
 pub steps-init : goal.steps-init
 steps-init c = search (seeking_steps, rules)

@@ -1,6 +1,6 @@
 use borrow.Author.Rules.{rules}
 use Rattle.towards.proofs.Seeks.{seeking_decks}
-use Rattle.towards.proofs.step_hit.Goals as goal
+use Rattle.towards.proofs.Line.step_hit.Goals as goal
 
 pub decks-init : goal.decks-init
 decks-init c = search (seeking_decks, rules)
