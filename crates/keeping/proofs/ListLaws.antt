@@ -5,45 +5,45 @@ use mathlib.Core.Path.{◌≡◌, refl, ◌∙◌}
 use mathlib.Core.List.{List}
 use lib.ListN.{length, get_or, set, length-set}
 use lib.Seq.{get_or-set_same, get_or-set_other}
-use Rattle.keeping.specs.declared.Kept.{Kept}
+use Rattle.keeping.specs.declared.Listed.{Listed}
 use Rattle.keeping.specs.Lists.{list_size, lists_size, list_at, with_list, ListsRoom}
 
 -- ---- what is read of an array in which deck d's list was written
-module _ (array : List ℕ) (d : ℕ) (kept : Kept) where
-  pub with_long : length (with_list array d kept) ≡ length array
+module _ (array : List ℕ) (d : ℕ) (list : Listed) where
+  pub with_long : length (with_list array d list) ≡ length array
   unfolding with_list
   with_long = simp length-set
 
   other_place : (i : ℕ) → (i ≡ list_size * d → ⊥) → (i ≡ list_size * d + 1 → ⊥) → (i ≡ list_size * d + 2 → ⊥)
-      → get_or (with_list array d kept) i 0 ≡ get_or array i 0
+      → get_or (with_list array d list) i 0 ≡ get_or array i 0
   unfolding with_list
   other_place i x y z =
-      get_or-set_other (set (set array (list_size * d) kept.start) (list_size * d + 1) kept.count) (list_size * d + 2) i kept.rest 0 z
-      ∙ get_or-set_other (set array (list_size * d) kept.start) (list_size * d + 1) i kept.count 0 y
-      ∙ get_or-set_other array (list_size * d) i kept.start 0 x
+      get_or-set_other (set (set array (list_size * d) list.start) (list_size * d + 1) list.count) (list_size * d + 2) i list.rest 0 z
+      ∙ get_or-set_other (set array (list_size * d) list.start) (list_size * d + 1) i list.count 0 y
+      ∙ get_or-set_other array (list_size * d) i list.start 0 x
 
   module _ (few : d < 256) where
-    pub behind_lists : (i : ℕ) → lists_size ≤ i → get_or (with_list array d kept) i 0 ≡ get_or array i 0
+    pub behind_lists : (i : ℕ) → lists_size ≤ i → get_or (with_list array d list) i 0 ≡ get_or array i 0
     behind_lists i h = other_place i (λ e. omega arith) (λ e. omega arith) (λ e. omega arith)
 
-    pub list_here : lists_size ≤ length array → list_at (with_list array d kept) d ≡ kept
+    pub list_here : lists_size ≤ length array → list_at (with_list array d list) d ≡ list
     unfolding with_list
     list_here room =
-        let a : List ℕ = set array (list_size * d) kept.start in
-        let b : List ℕ = set a (list_size * d + 1) kept.count in
-        let start : get_or (set b (list_size * d + 2) kept.rest) (list_size * d) 0 ≡ kept.start =
-        get_or-set_other b (list_size * d + 2) (list_size * d) kept.rest 0 (λ e. omega arith)
-        ∙ get_or-set_other a (list_size * d + 1) (list_size * d) kept.count 0 (λ e. omega arith)
-        ∙ get_or-set_same array (list_size * d) kept.start 0 (omega arith) in
-        let count : get_or (set b (list_size * d + 2) kept.rest) (list_size * d + 1) 0 ≡ kept.count =
-        get_or-set_other b (list_size * d + 2) (list_size * d + 1) kept.rest 0 (λ e. omega arith)
-        ∙ get_or-set_same a (list_size * d + 1) kept.count 0 (omega (arith, length-set array (list_size * d) kept.start)) in
-        let rest : get_or (set b (list_size * d + 2) kept.rest) (list_size * d + 2) 0 ≡ kept.rest =
-        get_or-set_same b (list_size * d + 2) kept.rest 0
-        (omega (arith, length-set array (list_size * d) kept.start, length-set a (list_size * d + 1) kept.count)) in
+        let a : List ℕ = set array (list_size * d) list.start in
+        let b : List ℕ = set a (list_size * d + 1) list.count in
+        let start : get_or (set b (list_size * d + 2) list.rest) (list_size * d) 0 ≡ list.start =
+        get_or-set_other b (list_size * d + 2) (list_size * d) list.rest 0 (λ e. omega arith)
+        ∙ get_or-set_other a (list_size * d + 1) (list_size * d) list.count 0 (λ e. omega arith)
+        ∙ get_or-set_same array (list_size * d) list.start 0 (omega arith) in
+        let count : get_or (set b (list_size * d + 2) list.rest) (list_size * d + 1) 0 ≡ list.count =
+        get_or-set_other b (list_size * d + 2) (list_size * d + 1) list.rest 0 (λ e. omega arith)
+        ∙ get_or-set_same a (list_size * d + 1) list.count 0 (omega (arith, length-set array (list_size * d) list.start)) in
+        let rest : get_or (set b (list_size * d + 2) list.rest) (list_size * d + 2) 0 ≡ list.rest =
+        get_or-set_same b (list_size * d + 2) list.rest 0
+        (omega (arith, length-set array (list_size * d) list.start, length-set a (list_size * d + 1) list.count)) in
         rw (start, count, rest)
 
-  pub list_before : (e : ℕ) → e < d → list_at (with_list array d kept) e ≡ list_at array e
+  pub list_before : (e : ℕ) → e < d → list_at (with_list array d list) e ≡ list_at array e
   list_before e h =
       rw (
         other_place (list_size * e) (λ z. omega arith) (λ z. omega arith) (λ z. omega arith),
