@@ -1,12 +1,13 @@
--- The lists at the front of an array: what is read of one that was written, of the others, and of the numbers behind them.
+-- The lists of an array: what is read of one that was written, of the others, and of the numbers behind them.
 use Prim.Native.Nat.{ℕ, ◌+◌, ◌*◌, ◌≤◌, ◌<◌}
 use native.Mathlib.Omega.{arith}
-use mathlib.Core.Path.{◌≡◌, refl, ◌∙◌}
+use mathlib.Core.Path.{◌≡◌, refl, sym, ap, ◌∙◌}
 use mathlib.Core.List.{List}
-use lib.ListN.{length, get_or, set, length-set}
+use lib.ListN.{length, get_or, set, take, drop, length-set}
 use lib.Seq.{get_or-set_same, get_or-set_other}
+use Rattle.std.proofs.lemmas.List.{drop-set-lt, drop-take, get_or-take, length-take-le, take-append-drop, take-append-le}
 use Rattle.keeping.specs.declared.Listed.{Listed}
-use Rattle.keeping.specs.Lists.{list_size, lists_size, list_at, with_list, ListsRoom}
+use Rattle.keeping.specs.Lists.{list_size, lists_size, list_at, numbers_at, with_list, ListsRoom}
 
 -- ---- what is read of an array in which deck d's list was written
 module _ (array : List ℕ) (d : ℕ) (list : Listed) where
@@ -23,8 +24,17 @@ module _ (array : List ℕ) (d : ℕ) (list : Listed) where
       ∙ get_or-set_other array (list_size * d) i list.start 0 x
 
   module _ (few : d < 256) where
-    pub behind_lists : (i : ℕ) → lists_size ≤ i → get_or (with_list array d list) i 0 ≡ get_or array i 0
-    behind_lists i h = other_place i (λ e. omega arith) (λ e. omega arith) (λ e. omega arith)
+    -- the numbers of a list stand behind
+    pub numbers_behind : (other : Listed) → lists_size ≤ other.start → numbers_at (with_list array d list) other ≡ numbers_at array other
+    unfolding with_list
+    numbers_behind other h =
+        let a : List ℕ = set array (list_size * d) list.start in
+        let b : List ℕ = set a (list_size * d + 1) list.count in
+        ap (take other.count) (
+          drop-set-lt other.start b (list_size * d + 2) list.rest (omega arith)
+          ∙ drop-set-lt other.start a (list_size * d + 1) list.count (omega arith)
+          ∙ drop-set-lt other.start array (list_size * d) list.start (omega arith)
+        )
 
     pub list_here : lists_size ≤ length array → list_at (with_list array d list) d ≡ list
     unfolding with_list
@@ -50,6 +60,26 @@ module _ (array : List ℕ) (d : ℕ) (list : Listed) where
         other_place (list_size * e + 1) (λ z. omega arith) (λ z. omega arith) (λ z. omega arith),
         other_place (list_size * e + 2) (λ z. omega arith) (λ z. omega arith) (λ z. omega arith),
       )
+
+-- ---- two arrays that are equal before `at`: the lists and the numbers that stand there
+module _ (array array' : List ℕ) {at : ℕ} (inside : at ≤ length array) (inside' : at ≤ length array') (same : take at array' ≡ take at array) where
+  same_place : (i : ℕ) → i < at → get_or array' i 0 ≡ get_or array i 0
+  same_place i h =
+      sym (get_or-take at array' i 0 h) ∙ ap (λ (front : List ℕ). get_or front i 0) same ∙ get_or-take at array i 0 h
+
+  pub same_list : (e : ℕ) → list_size * e + 2 < at → list_at array' e ≡ list_at array e
+  same_list e h =
+      rw (same_place (list_size * e) (omega arith), same_place (list_size * e + 1) (omega arith), same_place (list_size * e + 2) (omega arith))
+
+  pub same_numbers : (list : Listed) → list.start + list.count ≤ at → numbers_at array' list ≡ numbers_at array list
+  same_numbers list h = sym (front array' inside') ∙ ap (λ (l : List ℕ). drop list.start (take (list.start + list.count) l)) same ∙ front array inside
+    where
+      front : (l : List ℕ) → at ≤ length l → drop list.start (take (list.start + list.count) (take at l)) ≡ numbers_at l list
+      front l in_l =
+          let long = length-take-le at l in_l in
+          let whole = take-append-drop at l in
+          let shorter = take-append-le (list.start + list.count) (take at l) (drop at l) (omega (arith, long)) in
+          ap (drop list.start) (sym shorter ∙ ap (take (list.start + list.count)) whole) ∙ drop-take list.start list.count l
 
 -- ---- two arrays that a loop lends, the one for the lists and the one for a step's own: they keep their lengths
 pub record Lent (kept₀ kept near₀ near : List ℕ) : Type 0 where

@@ -7,7 +7,6 @@ use native.Mathlib.Nat.{ℕ_set}
 use mathlib.Core.HLevel.{collapsible→set}
 use mathlib.Core.Path.{refl, sym, ap, ◌∙◌}
 use Rattle.geometry.specs.Bounds.{AtMost}
-use Rattle.answers.specs.declared.Refusal.{Refusal}
 use Rattle.answers.specs.declared.Refusal.TheVariants.{HeaderCut, TooManyDecks, ReachOutOfRange, StepsOutOfRange, TableCut, BlocksNotEndToEnd, PartialEntry, EmptyMesh, TooManyPolygons, MismatchedHeights, DeckFloatOutOfRange, ListsNotEndToEnd, NoSuchVertex, WrongLength, KindNotAllowed, CallFloatOutOfRange, NoSuchDeck, NoSuchPolygon, NoSuchNeighbour, NoRoom, WrongInput, NoDirection}
 use Rattle.answers.specs.Checks.{Check}
 use Rattle.answers.specs.Questions.{number_of}
