@@ -31,9 +31,9 @@ module _ (array : List ℕ) (d : ℕ) (list : Listed) where
         let a : List ℕ = set array (list_size * d) list.start in
         let b : List ℕ = set a (list_size * d + 1) list.count in
         ap (take other.count) (
-          drop-set-lt other.start b (list_size * d + 2) list.rest (omega arith)
-          ∙ drop-set-lt other.start a (list_size * d + 1) list.count (omega arith)
-          ∙ drop-set-lt other.start array (list_size * d) list.start (omega arith)
+        drop-set-lt other.start b (list_size * d + 2) list.rest (omega arith)
+        ∙ drop-set-lt other.start a (list_size * d + 1) list.count (omega arith)
+        ∙ drop-set-lt other.start array (list_size * d) list.start (omega arith)
         )
 
     pub list_here : lists_size ≤ length array → list_at (with_list array d list) d ≡ list
