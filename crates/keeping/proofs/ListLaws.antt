@@ -1,55 +1,85 @@
--- The lists at the front of an array: what is read of one that was written, of the others, and of the numbers behind them.
+-- The lists of an array: what is read of one that was written, of the others, and of the numbers behind them.
 use Prim.Native.Nat.{ℕ, ◌+◌, ◌*◌, ◌≤◌, ◌<◌}
 use native.Mathlib.Omega.{arith}
-use mathlib.Core.Path.{◌≡◌, refl, ◌∙◌}
+use mathlib.Core.Path.{◌≡◌, refl, sym, ap, ◌∙◌}
 use mathlib.Core.List.{List}
-use lib.ListN.{length, get_or, set, length-set}
+use lib.ListN.{length, get_or, set, take, drop, length-set}
 use lib.Seq.{get_or-set_same, get_or-set_other}
-use Rattle.keeping.specs.declared.Kept.{Kept}
-use Rattle.keeping.specs.Lists.{list_size, lists_size, list_at, with_list, ListsRoom}
+use Rattle.std.proofs.lemmas.List.{drop-set-lt, drop-take, get_or-take, length-take-le, take-append-drop, take-append-le}
+use Rattle.keeping.specs.declared.Listed.{Listed}
+use Rattle.keeping.specs.Lists.{list_size, lists_size, list_at, numbers_at, with_list, ListsRoom}
 
 -- ---- what is read of an array in which deck d's list was written
-module _ (array : List ℕ) (d : ℕ) (kept : Kept) where
-  pub with_long : length (with_list array d kept) ≡ length array
+module _ (array : List ℕ) (d : ℕ) (list : Listed) where
+  pub with_long : length (with_list array d list) ≡ length array
   unfolding with_list
   with_long = simp length-set
 
   other_place : (i : ℕ) → (i ≡ list_size * d → ⊥) → (i ≡ list_size * d + 1 → ⊥) → (i ≡ list_size * d + 2 → ⊥)
-      → get_or (with_list array d kept) i 0 ≡ get_or array i 0
+      → get_or (with_list array d list) i 0 ≡ get_or array i 0
   unfolding with_list
   other_place i x y z =
-      get_or-set_other (set (set array (list_size * d) kept.start) (list_size * d + 1) kept.count) (list_size * d + 2) i kept.rest 0 z
-      ∙ get_or-set_other (set array (list_size * d) kept.start) (list_size * d + 1) i kept.count 0 y
-      ∙ get_or-set_other array (list_size * d) i kept.start 0 x
+      get_or-set_other (set (set array (list_size * d) list.start) (list_size * d + 1) list.count) (list_size * d + 2) i list.rest 0 z
+      ∙ get_or-set_other (set array (list_size * d) list.start) (list_size * d + 1) i list.count 0 y
+      ∙ get_or-set_other array (list_size * d) i list.start 0 x
 
   module _ (few : d < 256) where
-    pub behind_lists : (i : ℕ) → lists_size ≤ i → get_or (with_list array d kept) i 0 ≡ get_or array i 0
-    behind_lists i h = other_place i (λ e. omega arith) (λ e. omega arith) (λ e. omega arith)
+    -- the numbers of a list stand behind
+    pub numbers_behind : (other : Listed) → lists_size ≤ other.start → numbers_at (with_list array d list) other ≡ numbers_at array other
+    unfolding with_list
+    numbers_behind other h =
+        let a : List ℕ = set array (list_size * d) list.start in
+        let b : List ℕ = set a (list_size * d + 1) list.count in
+        ap (take other.count) (
+        drop-set-lt other.start b (list_size * d + 2) list.rest (omega arith)
+        ∙ drop-set-lt other.start a (list_size * d + 1) list.count (omega arith)
+        ∙ drop-set-lt other.start array (list_size * d) list.start (omega arith)
+        )
 
-    pub list_here : lists_size ≤ length array → list_at (with_list array d kept) d ≡ kept
+    pub list_here : lists_size ≤ length array → list_at (with_list array d list) d ≡ list
     unfolding with_list
     list_here room =
-        let a : List ℕ = set array (list_size * d) kept.start in
-        let b : List ℕ = set a (list_size * d + 1) kept.count in
-        let start : get_or (set b (list_size * d + 2) kept.rest) (list_size * d) 0 ≡ kept.start =
-        get_or-set_other b (list_size * d + 2) (list_size * d) kept.rest 0 (λ e. omega arith)
-        ∙ get_or-set_other a (list_size * d + 1) (list_size * d) kept.count 0 (λ e. omega arith)
-        ∙ get_or-set_same array (list_size * d) kept.start 0 (omega arith) in
-        let count : get_or (set b (list_size * d + 2) kept.rest) (list_size * d + 1) 0 ≡ kept.count =
-        get_or-set_other b (list_size * d + 2) (list_size * d + 1) kept.rest 0 (λ e. omega arith)
-        ∙ get_or-set_same a (list_size * d + 1) kept.count 0 (omega (arith, length-set array (list_size * d) kept.start)) in
-        let rest : get_or (set b (list_size * d + 2) kept.rest) (list_size * d + 2) 0 ≡ kept.rest =
-        get_or-set_same b (list_size * d + 2) kept.rest 0
-        (omega (arith, length-set array (list_size * d) kept.start, length-set a (list_size * d + 1) kept.count)) in
+        let a : List ℕ = set array (list_size * d) list.start in
+        let b : List ℕ = set a (list_size * d + 1) list.count in
+        let start : get_or (set b (list_size * d + 2) list.rest) (list_size * d) 0 ≡ list.start =
+        get_or-set_other b (list_size * d + 2) (list_size * d) list.rest 0 (λ e. omega arith)
+        ∙ get_or-set_other a (list_size * d + 1) (list_size * d) list.count 0 (λ e. omega arith)
+        ∙ get_or-set_same array (list_size * d) list.start 0 (omega arith) in
+        let count : get_or (set b (list_size * d + 2) list.rest) (list_size * d + 1) 0 ≡ list.count =
+        get_or-set_other b (list_size * d + 2) (list_size * d + 1) list.rest 0 (λ e. omega arith)
+        ∙ get_or-set_same a (list_size * d + 1) list.count 0 (omega (arith, length-set array (list_size * d) list.start)) in
+        let rest : get_or (set b (list_size * d + 2) list.rest) (list_size * d + 2) 0 ≡ list.rest =
+        get_or-set_same b (list_size * d + 2) list.rest 0
+        (omega (arith, length-set array (list_size * d) list.start, length-set a (list_size * d + 1) list.count)) in
         rw (start, count, rest)
 
-  pub list_before : (e : ℕ) → e < d → list_at (with_list array d kept) e ≡ list_at array e
+  pub list_before : (e : ℕ) → e < d → list_at (with_list array d list) e ≡ list_at array e
   list_before e h =
       rw (
         other_place (list_size * e) (λ z. omega arith) (λ z. omega arith) (λ z. omega arith),
         other_place (list_size * e + 1) (λ z. omega arith) (λ z. omega arith) (λ z. omega arith),
         other_place (list_size * e + 2) (λ z. omega arith) (λ z. omega arith) (λ z. omega arith),
       )
+
+-- ---- two arrays that are equal before `at`: the lists and the numbers that stand there
+module _ (array array' : List ℕ) {at : ℕ} (inside : at ≤ length array) (inside' : at ≤ length array') (same : take at array' ≡ take at array) where
+  same_place : (i : ℕ) → i < at → get_or array' i 0 ≡ get_or array i 0
+  same_place i h =
+      sym (get_or-take at array' i 0 h) ∙ ap (λ (front : List ℕ). get_or front i 0) same ∙ get_or-take at array i 0 h
+
+  pub same_list : (e : ℕ) → list_size * e + 2 < at → list_at array' e ≡ list_at array e
+  same_list e h =
+      rw (same_place (list_size * e) (omega arith), same_place (list_size * e + 1) (omega arith), same_place (list_size * e + 2) (omega arith))
+
+  pub same_numbers : (list : Listed) → list.start + list.count ≤ at → numbers_at array' list ≡ numbers_at array list
+  same_numbers list h = sym (front array' inside') ∙ ap (λ (l : List ℕ). drop list.start (take (list.start + list.count) l)) same ∙ front array inside
+    where
+      front : (l : List ℕ) → at ≤ length l → drop list.start (take (list.start + list.count) (take at l)) ≡ numbers_at l list
+      front l in_l =
+          let long = length-take-le at l in_l in
+          let whole = take-append-drop at l in
+          let shorter = take-append-le (list.start + list.count) (take at l) (drop at l) (omega (arith, long)) in
+          ap (drop list.start) (sym shorter ∙ ap (take (list.start + list.count)) whole) ∙ drop-take list.start list.count l
 
 -- ---- two arrays that a loop lends, the one for the lists and the one for a step's own: they keep their lengths
 pub record Lent (kept₀ kept near₀ near : List ℕ) : Type 0 where

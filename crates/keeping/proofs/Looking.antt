@@ -17,27 +17,26 @@ use Rattle.hits.proofs.HitLoops.{polygon_hit_same, sample_hit_yes, sample_hit_no
 use Rattle.ship.specs.Model.{Deck}
 use Rattle.search.specs.OnDeck.{passes_at, deck_turn, next_hit}
 use Rattle.search.proofs.PolygonLoop.{NonePass, first_is, none_is}
-use Rattle.keeping.specs.declared.Kept.{Kept}
 use Rattle.keeping.specs.Kept.{sought_at, sought_count, KeptAt, RingKept}
 use Rattle.keeping.proofs.SoughtLaws.{sought_end, sought_below, earlier_fails, later_fails}
 
 -- ---- the loop over the polygons of a list: those from `from` on and before number j's do not pass
-pub record Looked (deck : Deck) (array : List ℕ) (kept : Kept) (q : Vec2) (from j : ℕ) : Type 0 where
-  pub at : KeptAt deck array kept q
-  pub none : NonePass deck q from (sought_at array kept j)
+pub record Looked (deck : Deck) (numbers : List ℕ) (rest : ℕ) (q : Vec2) (from j : ℕ) : Type 0 where
+  pub at : KeptAt deck numbers rest q
+  pub none : NonePass deck q from (sought_at numbers rest j)
 
-pub looked_all : {deck : Deck} {array : List ℕ} {kept : Kept} {q : Vec2} (from : ℕ) → KeptAt deck array kept q → Looked deck array kept q from 0
+pub looked_all : {deck : Deck} {numbers : List ℕ} {rest : ℕ} {q : Vec2} (from : ℕ) → KeptAt deck numbers rest q → Looked deck numbers rest q from 0
 looked_all from at = record { at = at; none = λ k past below. earlier_fails at k below }
 
-module _ {deck : Deck} {array : List ℕ} {kept : Kept} {q : Vec2} {from j : ℕ} (m : Looked deck array kept q from j) where
+module _ {deck : Deck} {numbers : List ℕ} {rest : ℕ} {q : Vec2} {from j : ℕ} (m : Looked deck numbers rest q from j) where
   -- where number j's does not pass, or is one before `from`
-  more : (from ≤ sought_at array kept j → passes_at deck q (sought_at array kept j) ≡ false) → Looked deck array kept q from (j + 1)
+  more : (from ≤ sought_at numbers rest j → passes_at deck q (sought_at numbers rest j) ≡ false) → Looked deck numbers rest q from (j + 1)
   more fails = record { at = m.at; none = none' }
     where
       x : ℕ
-      x = sought_at array kept j
+      x = sought_at numbers rest j
 
-      none' : NonePass deck q from (sought_at array kept (j + 1))
+      none' : NonePass deck q from (sought_at numbers rest (j + 1))
       none' k past below = go (ltb k x) refl (ltb x k) refl
         where
           go : (s : Bool) → ltb k x ≡ s → (t : Bool) → ltb x k ≡ t → passes_at deck q k ≡ false
@@ -47,56 +46,53 @@ module _ {deck : Deck} {array : List ℕ} {kept : Kept} {q : Vec2} {from j : ℕ
               let at : x ≡ k = omega (arith, ltb-false k x e, ltb-false x k f) in
               rw (← at) (fails (rw at past))
 
-  module _ {k : ℕ} (is : k ≡ sought_at array kept j) where
-    pub looked_before : k < from → Looked deck array kept q from (j + 1)
+  module _ {k : ℕ} (is : k ≡ sought_at numbers rest j) where
+    pub looked_before : k < from → Looked deck numbers rest q from (j + 1)
     looked_before h = more (λ l. let no : ⊥ = omega arith in absurd no)
 
     module _ {r : Bool} (test : r ≡ passes_at deck q k) where
-      pub looked_more : r ≡ false → Looked deck array kept q from (j + 1)
+      pub looked_more : r ≡ false → Looked deck numbers rest q from (j + 1)
       looked_more e = more (λ l. rw (← is) (sym test ∙ e))
 
-      pub next_is : (i : ℕ) → from ≤ k → j < sought_count (length deck.polygons) kept → r ≡ true → Some (hit i k) ≡ next_hit deck q i from
+      pub next_is : (i : ℕ) → from ≤ k → j < sought_count (length deck.polygons) numbers rest → r ≡ true → Some (hit i k) ≡ next_hit deck q i from
       next_is i l h e =
           first_is deck q i from k l (rw is (sought_below m.at.list j h)) (rw is m.none) (sym test ∙ e)
 
-  pub next_none : (i : ℕ) → sought_count (length deck.polygons) kept ≤ j → j ≤ sought_count (length deck.polygons) kept → None ≡ next_hit deck q i from
+  pub next_none : (i : ℕ) → sought_count (length deck.polygons) numbers rest ≤ j → j ≤ sought_count (length deck.polygons) numbers rest → None ≡ next_hit deck q i from
   next_none i h l =
-      let at : j ≡ sought_count (length deck.polygons) kept = omega arith in
-      let all : sought_at array kept j ≡ length deck.polygons = ap (sought_at array kept) at ∙ sought_end m.at.list in
+      let at : j ≡ sought_count (length deck.polygons) numbers rest = omega arith in
+      let all : sought_at numbers rest j ≡ length deck.polygons = ap (sought_at numbers rest) at ∙ sought_end m.at.list in
       none_is deck q i from (subst (NonePass deck q from) all m.none)
 
 -- ---- what the calls in the loops ask
-module _ {deck : Deck} {n : ℕ} (size : n ≡ length deck.polygons) {array : List ℕ} {kept : Kept} where
-  module _ {q : Vec2} (at : KeptAt deck array kept q) where
-    pub list_inside : kept.start + kept.count ≤ length array
-    list_inside = at.list.inside
-
-    pub list_few : kept.count ≤ kept.rest
+module _ {deck : Deck} {n : ℕ} (size : n ≡ length deck.polygons) {numbers : List ℕ} {rest : ℕ} where
+  module _ {q : Vec2} (at : KeptAt deck numbers rest q) where
+    pub list_few : length numbers ≤ rest
     list_few = at.list.few
 
-    pub list_there : kept.rest ≤ n
+    pub list_there : rest ≤ n
     list_there = omega (arith, at.list.there, size)
 
-    module _ {count j : ℕ} (all : count ≡ sought_count n kept) (l : j < count) where
-      pub number_fits : n < 2 ^ 24 → kept.rest + j < 2 ^ 63
+    module _ {count j : ℕ} (all : count ≡ sought_count n numbers rest) (l : j < count) where
+      pub number_fits : n < 2 ^ 24 → rest + j < 2 ^ 63
       number_fits few = omega (arith, list_few, list_there)
 
-      pub number_there : {k : ℕ} → k ≡ sought_at array kept j → k < length deck.polygons
+      pub number_there : {k : ℕ} → k ≡ sought_at numbers rest j → k < length deck.polygons
       number_there is = omega (arith, sought_below at.list j (rw (← size, ← all) l))
 
   -- ---- `next_hit`
-  module _ {q : Vec2} {from j count : ℕ} (m : Looked deck array kept q from j) (all : count ≡ sought_count n kept) where
-    in_deck : count ≡ sought_count (length deck.polygons) kept
+  module _ {q : Vec2} {from j count : ℕ} (m : Looked deck numbers rest q from j) (all : count ≡ sought_count n numbers rest) where
+    in_deck : count ≡ sought_count (length deck.polygons) numbers rest
     in_deck = rw (← size) all
 
-    pub found_next : {i k : ℕ} {r : Bool} → j < count → k ≡ sought_at array kept j → from ≤ k → r ≡ passes_at deck q k → r ≡ true
+    pub found_next : {i k : ℕ} {r : Bool} → j < count → k ≡ sought_at numbers rest j → from ≤ k → r ≡ passes_at deck q k → r ≡ true
         → Some (hit i k) ≡ next_hit deck q i from
     found_next {i} l is h test e = next_is m is test i h (rw (← in_deck) l) e
 
     pub found_none : (i : ℕ) → count ≤ j → j ≤ count → None ≡ next_hit deck q i from
     found_none i h l = next_none m i (rw (← in_deck) h) (rw (← in_deck) l)
 
-pub ruleset nexts = (list_inside, list_few, list_there, number_fits, number_there, looked_all, looked_before, looked_more, found_next, found_none)
+pub ruleset nexts = (list_few, list_there, number_fits, number_there, looked_all, looked_before, looked_more, found_next, found_none)
 
 -- ---- the samples
 -- whether polygon k passes at sample i
@@ -120,7 +116,7 @@ sample_hit_lem deck p reach s i at =
     rw e (polygon_hit_same _ _ i (λ k. rw at) 0 (length deck.polygons))
 
 module _ {deck : Deck} {p : Vec2} {reach : Float} {s i : ℕ} (l : SamplesLeft deck p reach s i) where
-  pub sample_looked : {array : List ℕ} {kept : Kept} {q : Vec2} → RingKept deck array kept p reach s → q ≡ sample_of p reach s i → Looked deck array kept q 0 0
+  pub sample_looked : {numbers : List ℕ} {rest : ℕ} {q : Vec2} → RingKept deck numbers rest p reach s → q ≡ sample_of p reach s i → Looked deck numbers rest q 0 0
   sample_looked ring at = looked_all 0 (rw at (ring.at i))
 
   module _ (b : i < 10 * s + 1) {q : Vec2} (at : q ≡ sample_of p reach s i) where
@@ -135,31 +131,28 @@ module _ {deck : Deck} {p : Vec2} {reach : Float} {s i : ℕ} (l : SamplesLeft d
   pub all_missed : 10 * s + 1 ≤ i → None ≡ deck_turn deck p reach s
   all_missed e = sym (l.same ∙ sample_hit_none (passes_at_sample deck p reach s) (length deck.polygons) i (10 * s + 1) e)
 
-module _ {deck : Deck} {n : ℕ} (size : n ≡ length deck.polygons) {array : List ℕ} {kept : Kept} {p : Vec2} {reach : Float} {s : ℕ}
-    (ring : RingKept deck array kept p reach s) where
-  pub ring_few : kept.count ≤ kept.rest
+module _ {deck : Deck} {n : ℕ} (size : n ≡ length deck.polygons) {numbers : List ℕ} {rest : ℕ} {p : Vec2} {reach : Float} {s : ℕ}
+    (ring : RingKept deck numbers rest p reach s) where
+  pub ring_few : length numbers ≤ rest
   ring_few = list_few size (ring.at 0)
 
-  pub ring_rest : kept.rest ≤ n
+  pub ring_rest : rest ≤ n
   ring_rest = list_there size (ring.at 0)
 
-module _ {deck : Deck} {n : ℕ} (size : n ≡ length deck.polygons) {array : List ℕ} {kept : Kept} {count : ℕ} (all : count ≡ sought_count n kept) where
-  module _ {p : Vec2} {reach : Float} {s : ℕ} (ring : RingKept deck array kept p reach s) where
+module _ {deck : Deck} {n : ℕ} (size : n ≡ length deck.polygons) {numbers : List ℕ} {rest : ℕ} {count : ℕ} (all : count ≡ sought_count n numbers rest) where
+  module _ {p : Vec2} {reach : Float} {s : ℕ} (ring : RingKept deck numbers rest p reach s) where
     -- ---- what the calls before and in the loops ask
-    pub ring_inside : kept.start + kept.count ≤ length array
-    ring_inside = list_inside size (ring.at 0)
-
-    pub ring_fits : {j : ℕ} → j < count → n < 2 ^ 24 → kept.rest + j < 2 ^ 63
+    pub ring_fits : {j : ℕ} → j < count → n < 2 ^ 24 → rest + j < 2 ^ 63
     ring_fits l few = number_fits size (ring.at 0) all l few
 
-    pub ring_there : {j k : ℕ} → j < count → k ≡ sought_at array kept j → k < length deck.polygons
+    pub ring_there : {j k : ℕ} → j < count → k ≡ sought_at numbers rest j → k < length deck.polygons
     ring_there l is = number_there size (ring.at 0) all l is
 
     -- ---- nothing to look at: every sample misses
     pub turn_none : count ≡ 0 → None ≡ deck_turn deck p reach s
     turn_none none = go (10 * s + 1) 0 (omega arith) samples_all
       where
-        empty : sought_count (length deck.polygons) kept ≡ 0
+        empty : sought_count (length deck.polygons) numbers rest ≡ 0
         empty = rw (← size) (sym all ∙ none)
 
         misses : (i : ℕ) → None ≡ next_hit deck (sample_of p reach s i) i 0
@@ -171,8 +164,8 @@ module _ {deck : Deck} {n : ℕ} (size : n ≡ length deck.polygons) {array : Li
 
   -- ---- the loops
   module _ {p q : Vec2} {reach : Float} {s i j : ℕ} (l : SamplesLeft deck p reach s i) (under : i < 10 * s + 1) (at : q ≡ sample_of p reach s i)
-      (m : Looked deck array kept q 0 j) where
-    pub turn_hit : {k : ℕ} {r : Bool} → j < count → k ≡ sought_at array kept j → r ≡ passes_at deck q k → r ≡ true
+      (m : Looked deck numbers rest q 0 j) where
+    pub turn_hit : {k : ℕ} {r : Bool} → j < count → k ≡ sought_at numbers rest j → r ≡ passes_at deck q k → r ≡ true
         → Some (hit i k) ≡ deck_turn deck p reach s
     turn_hit h is test e = hit_ends l under at (found_next size m all h is (omega arith) test e)
 
@@ -183,4 +176,4 @@ module _ {deck : Deck} {n : ℕ} (size : n ≡ length deck.polygons) {array : Li
       pub turn_missed : 10 * s + 1 ≤ i + 1 → None ≡ deck_turn deck p reach s
       turn_missed e = all_missed samples_more e
 
-pub ruleset turns = (ring_few, ring_rest, ring_inside, ring_fits, ring_there, turn_none, samples_all, sample_looked, looked_more, turn_hit, samples_more, turn_missed)
+pub ruleset turns = (ring_few, ring_rest, ring_fits, ring_there, turn_none, samples_all, sample_looked, looked_more, turn_hit, samples_more, turn_missed)

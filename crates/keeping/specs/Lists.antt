@@ -1,8 +1,8 @@
--- The kept lists of all decks in one array: for each deck three numbers, which are its list's, and after them the numbers of all lists.
-use Rattle.std.specs.Prelude.{ℕ, ◌+◌, ◌*◌, ◌^◌, ◌≤◌, List, length, get_or, set}
-use Rattle.keeping.specs.declared.Kept.{Kept}
+-- The kept lists of all decks in one array: for each deck three numbers, which say where its list stands, and after them the numbers of all lists.
+use Rattle.std.specs.Prelude.{ℕ, ◌+◌, ◌*◌, ◌^◌, ◌≤◌, List, length, get_or, set, take, drop}
+use Rattle.keeping.specs.declared.Listed.{Listed}
 
--- numbers of a deck's list, and of those of 256 decks
+-- numbers that say where a deck's list stands, and those of 256 decks
 abbrev pub list_size : ℕ
 list_size = 3
 
@@ -13,19 +13,22 @@ lists_size = 768
 abbrev pub near_size : ℕ
 near_size = 4096
 
-abbrev pub list_at : List ℕ → ℕ → Kept
+abbrev pub list_at : List ℕ → ℕ → Listed
 list_at array d =
     record { start = get_or array (list_size * d) 0; count = get_or array (list_size * d + 1) 0; rest = get_or array (list_size * d + 2) 0 }
 
-unfoldable pub with_list : List ℕ → ℕ → Kept → List ℕ
-with_list array d kept =
-    set (set (set array (list_size * d) kept.start) (list_size * d + 1) kept.count) (list_size * d + 2) kept.rest
+unfoldable pub with_list : List ℕ → ℕ → Listed → List ℕ
+with_list array d list =
+    set (set (set array (list_size * d) list.start) (list_size * d + 1) list.count) (list_size * d + 2) list.rest
+
+-- the list lies in the array, and its numbers there
+abbrev pub LiesIn : List ℕ → Listed → Type 0
+LiesIn array list = list.start + list.count ≤ length array
+
+abbrev pub numbers_at : List ℕ → Listed → List ℕ
+numbers_at array list = take list.count (drop list.start array)
 
 -- an array with room for them, each of whose places has a number of 32 bits
 pub record ListsRoom (array : List ℕ) : Type 0 where
   pub room : lists_size ≤ length array
   pub few : length array ≤ 2 ^ 31
-
--- the list that has a search look at every polygon
-abbrev pub every_polygon : Kept
-every_polygon = record { start = 0; count = 0; rest = 0 }

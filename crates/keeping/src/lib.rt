@@ -2,25 +2,32 @@
 // other polygon passes where it is searched for; how it was found does not matter here.
 #![tactic(auto)]
 
-ghost use Rattle.std.specs.Prelude.{◌≡◌, ◌+◌, ◌^◌, ◌≤◌, ◌<◌, length};
+ghost use Rattle.std.specs.Prelude.{◌≡◌, ◌+◌, ◌^◌, ◌≤◌, ◌<◌, [], length};
 ghost use Rattle.ring.specs.Table.{directions};
 ghost use Rattle.search.specs.OnDeck.{deck_turn, next_hit};
 ghost use Rattle.keeping.specs.Kept.{sought_at, sought_count, KeptAt, RingKept};
-ghost use Rattle.keeping.specs.Lists.{list_at, with_list, every_polygon, ListsRoom};
+ghost use Rattle.keeping.specs.Lists.{list_at, numbers_at, with_list, LiesIn, ListsRoom};
 
 use decks::Deck;
 use geometry::Vec2;
 use hits::Hit;
 
-// The polygons whose numbers stand in an array, `count` of them from `start` on, and every polygon from number `rest` on.
+// The polygons that a search looks at: those whose numbers stand in a list, and every one from number `rest` on.
 #[derive(Clone, Copy, Debug, PartialEq, Eq)]
-pub struct Kept {
+pub struct Kept<'a> {
+    pub numbers: &'a [u32],
+    pub rest: usize,
+}
+
+// Where a deck's list stands in the array of all lists: it has `count` numbers from `start` on.
+#[derive(Clone, Copy, Debug, PartialEq, Eq)]
+pub struct Listed {
     pub start: usize,
     pub count: usize,
     pub rest: usize,
 }
 
-// Numbers of a deck's list at the front of the array, and of those of 256 decks.
+// Numbers at the front of the array that say where a deck's list stands, and of those of 256 decks.
 const LIST_SIZE: usize = 3;
 
 pub const LISTS_SIZE: usize = 768;
@@ -32,57 +39,58 @@ pub const KEPT_SIZE: usize = 4864;
 pub const NEAR_SIZE: usize = 4096;
 
 // Deck d's list.
-pub fn list_of(array: &[u32], d: usize) -> Kept
-    requires { ListsRoom array.now × (d < 256) }
-    ensures { result ≡ list_at array.now d }
+pub fn list_of(array: &[u32], d: usize) -> Kept<'_>
+    requires { ListsRoom array.now × ((d < 256) × LiesIn array.now (list_at array.now d)) }
+    ensures { (result.numbers.now ≡ numbers_at array.now (list_at array.now d)) × (result.rest ≡ (list_at array.now d).rest) }
 {
     let at = LIST_SIZE * d;
+    let start = array[at] as usize;
+    let count = array[at + 1] as usize;
     Kept {
-        start: array[at] as usize,
-        count: array[at + 1] as usize,
+        numbers: &array[start..start + count],
         rest: array[at + 2] as usize,
     }
 }
 
 #[tactic(auto, unfolding(crate::specs::Lists::with_list))]
-pub fn put_list(array: &mut [u32], d: usize, kept: Kept)
-    requires { ListsRoom array.old × ((d < 256) × ((kept.start + kept.count ≤ 2 ^ 31) × (kept.rest < 2 ^ 31))) }
-    ensures { array.new ≡ with_list array.old d kept }
+pub fn put_list(array: &mut [u32], d: usize, list: Listed)
+    requires { ListsRoom array.old × ((d < 256) × ((list.start + list.count ≤ 2 ^ 31) × (list.rest < 2 ^ 31))) }
+    ensures { array.new ≡ with_list array.old d list }
 {
     let at = LIST_SIZE * d;
-    array[at] = kept.start as u32;
-    array[at + 1] = kept.count as u32;
-    array[at + 2] = kept.rest as u32;
+    array[at] = list.start as u32;
+    array[at + 1] = list.count as u32;
+    array[at + 2] = list.rest as u32;
 }
 
 // The list that has a search look at every polygon.
-pub fn every_polygon() -> Kept
-    ensures { result ≡ every_polygon }
+pub fn every_polygon<'a>() -> Kept<'a>
+    ensures { (result.numbers.now ≡ []) × (result.rest ≡ 0) }
 {
     Kept {
-        start: 0,
-        count: 0,
+        numbers: &[],
         rest: 0,
     }
 }
 
 // How many polygons a list has a search look at, on a deck of so many.
-pub fn sought_count(polygons: usize, kept: Kept) -> usize
-    requires { (kept.count ≤ kept.rest) × (kept.rest ≤ polygons) }
-    ensures { result ≡ sought_count polygons kept }
+pub fn sought_count(polygons: usize, kept: Kept<'_>) -> usize
+    requires { (length kept.numbers.now ≤ kept.rest) × (kept.rest ≤ polygons) }
+    ensures { result ≡ sought_count polygons kept.entry.numbers.now kept.entry.rest }
 {
-    kept.count + (polygons - kept.rest)
+    kept.numbers.len() + (polygons - kept.rest)
 }
 
 // The number of the j-th of them.
-pub fn sought(array: &[u32], kept: Kept, j: usize) -> usize
-    requires { (kept.start + kept.count ≤ length array.now) × (kept.rest + j < 2 ^ 63) }
-    ensures { result ≡ sought_at array.now kept j }
+pub fn sought(kept: Kept<'_>, j: usize) -> usize
+    requires { kept.rest + j < 2 ^ 63 }
+    ensures { result ≡ sought_at kept.entry.numbers.now kept.entry.rest j }
 {
-    if j < kept.count {
-        array[kept.start + j] as usize
+    let count = kept.numbers.len();
+    if j < count {
+        kept.numbers[j] as usize
     } else {
-        kept.rest + (j - kept.count)
+        kept.rest + (j - count)
     }
 }
 
@@ -90,14 +98,13 @@ pub fn sought(array: &[u32], kept: Kept, j: usize) -> usize
 // sample is made.
 pub fn first_hit(
     deck: &Deck<'_>,
-    t: &[i32; 2432],
+    table: &[i32; 2432],
     p: Vec2,
     reach: f32,
     s: usize,
-    array: &[u32],
-    kept: Kept,
+    kept: Kept<'_>,
 ) -> Option<Hit>
-    requires { (t.now ≡ directions) × ((s < 16) × RingKept deck.now array.now kept p reach s) }
+    requires { (table.now ≡ directions) × ((s < 16) × RingKept deck.now kept.numbers.now kept.rest p reach s) }
     ensures { result ≡ deck_turn deck.now p reach s }
 {
     let count = sought_count(deck.polygon_count(), kept);
@@ -108,9 +115,9 @@ pub fn first_hit(
     let mut i: usize = 0;
     // A loop over the samples, not a for: it has a value, the hit that a labelled break takes out of both loops.
     'samples: loop {
-        let q = ring::sample(t, p, reach, s, i);
+        let q = ring::sample(table, p, reach, s, i);
         'polygons: for j in 0..count {
-            let polygon = sought(array, kept, j);
+            let polygon = sought(kept, j);
             if search::point_in_polygon(deck, polygon, q) {
                 break 'samples Some(Hit { sample: i, polygon });
             }
@@ -123,20 +130,13 @@ pub fn first_hit(
 }
 
 // The first polygon from number k on that passes at q, which is sample i.
-pub fn next_hit(
-    deck: &Deck<'_>,
-    q: Vec2,
-    i: usize,
-    k: usize,
-    array: &[u32],
-    kept: Kept,
-) -> Option<Hit>
-    requires { KeptAt deck.now array.now kept q }
+pub fn next_hit(deck: &Deck<'_>, q: Vec2, i: usize, k: usize, kept: Kept<'_>) -> Option<Hit>
+    requires { KeptAt deck.now kept.numbers.now kept.rest q }
     ensures { result ≡ next_hit deck.now q i k }
 {
     let count = sought_count(deck.polygon_count(), kept);
     'polygons: for j in 0..count {
-        let polygon = sought(array, kept, j);
+        let polygon = sought(kept, j);
         if polygon < k {
             continue;
         }

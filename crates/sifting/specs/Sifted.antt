@@ -1,13 +1,13 @@
 -- A kept list over a box: what was sifted out passes at no point of it.
-use Rattle.std.specs.Prelude.{ℕ, ◌*◌, ◌≤◌, ◌<◌, ◌≡◌, Bool, ◌&&◌, ◌||◌, List, leb, ltb, length, get_or, Float}
+use Rattle.std.specs.Prelude.{ℕ, ◌*◌, ◌≤◌, ◌<◌, ◌≡◌, Bool, ◌&&◌, ◌||◌, List, leb, ltb, length, take, Float}
 use Rattle.geometry.specs.declared.Vec2.{Vec2}
 use Rattle.geometry.specs.Bounds.{PointWithin}
 use Rattle.boxes.specs.declared.BoundingBox.{BoundingBox}
 use Rattle.boxes.specs.Box.{InBox, BoxWithin, may_pass}
 use Rattle.boxes.specs.StepBox.{ReachAllowed}
 use Rattle.ship.specs.Model.{Deck, polygon_points}
-use Rattle.keeping.specs.declared.Kept.{Kept}
 use Rattle.keeping.specs.Kept.{ListIn, OthersFail}
+use Rattle.sifting.specs.declared.Remaining.{Remaining}
 
 -- polygon k may pass at a point of the box; where this is false it passes at none
 unfoldable pub may_pass_at : Deck → BoundingBox → ℕ → Bool
@@ -22,22 +22,20 @@ unfoldable pub is_full : ℕ → ℕ → ℕ → Bool
 is_full count room looked = leb room count || (leb many count && ltb looked (2 * count))
 
 -- every polygon that is not in the list passes at no point of this box
-pub record KeptOver (deck : Deck) (bounds : BoundingBox) (array : List ℕ) (kept : Kept) : Type 0 where
-  pub list : ListIn (length deck.polygons) array kept
-  pub others : (q : Vec2) → InBox bounds q → OthersFail deck array kept q
+pub record KeptOver (deck : Deck) (bounds : BoundingBox) (numbers : List ℕ) (rest : ℕ) : Type 0 where
+  pub list : ListIn (length deck.polygons) numbers rest
+  pub others : (q : Vec2) → InBox bounds q → OthersFail deck numbers rest q
 
--- a box, a list of the deck to go over, and a place in an array for what is kept of it
-pub record SiftReady (deck : Deck) (bounds : BoundingBox) (from : List ℕ) (source : Kept) (into : List ℕ) (at : ℕ) : Type 0 where
+-- a box, and a list of the deck to go over
+pub record SiftReady (deck : Deck) (bounds : BoundingBox) (source : List ℕ) (source_rest : ℕ) : Type 0 where
   pub box_within : BoxWithin 4000000 bounds
-  pub source_kept : KeptOver deck bounds from source
-  pub place : at ≤ length into
+  pub source_kept : KeptOver deck bounds source source_rest
 
--- the list that was made stands there, and what stood before it stands as it did
-pub record SiftedInto (deck : Deck) (bounds : BoundingBox) (at : ℕ) (before after : List ℕ) (kept : Kept) : Type 0 where
-  pub kept_over : KeptOver deck bounds after kept
-  pub starts : kept.start ≡ at
+-- the numbers of the list that was made stand at the front
+pub record SiftedInto (deck : Deck) (bounds : BoundingBox) (before after : List ℕ) (remaining : Remaining) : Type 0 where
+  pub kept_over : KeptOver deck bounds (take remaining.count after) remaining.rest
+  pub inside : remaining.count ≤ length before
   pub long : length after ≡ length before
-  pub same : (i : ℕ) → i < at → get_or after i 0 ≡ get_or before i 0
 
 -- a point around which the samples of step s lie, in a deck's coordinates
 pub record Around (p : Vec2) (reach : Float) (s : ℕ) : Type 0 where

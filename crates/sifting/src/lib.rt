@@ -2,7 +2,7 @@
 // a box are kept.
 #![tactic(auto)]
 
-ghost use Rattle.std.specs.Prelude.{◌≡◌, ◌^◌, ◌≤◌, ◌<◌, length};
+ghost use Rattle.std.specs.Prelude.{◌≡◌, ◌^◌, ◌<◌, length};
 ghost use Rattle.ring.specs.Table.{directions};
 ghost use Rattle.boxes.specs.StepBox.{step_box};
 ghost use Rattle.search.specs.OnDeck.{deck_turn};
@@ -13,6 +13,13 @@ use decks::Deck;
 use geometry::Vec2;
 use hits::Hit;
 use keeping::Kept;
+
+// What a sift leaves to look at: `count` numbers at the front of an array, and every polygon from number `rest` on.
+#[derive(Clone, Copy, Debug, PartialEq, Eq)]
+pub struct Remaining {
+    pub count: usize,
+    pub rest: usize,
+}
 
 // From so many numbers on a list is held against what was looked at.
 const MANY: usize = 128;
@@ -48,77 +55,63 @@ fn is_full(count: usize, room: usize, looked: usize) -> bool
     count >= room || (count >= MANY && 2 * count > looked)
 }
 
-// The list's polygons that may pass in the box, kept from `at` on. Where the array is full, or the box covers most of the deck, every polygon from
-// there on stays one to look at.
-pub fn sift(
-    deck: &Deck<'_>,
-    bounds: BoundingBox,
-    from: &[u32],
-    source: Kept,
-    into: &mut [u32],
-    at: usize,
-) -> Kept
-    requires { SiftReady deck.now bounds from.now source into.old at }
-    ensures { SiftedInto deck.now bounds at into.old into.new result }
+// The list's polygons that may pass in the box, kept from the front of `into` on. Where it is full, or the box covers most of the deck, every polygon
+// from there on stays one to look at.
+pub fn sift(deck: &Deck<'_>, bounds: BoundingBox, source: Kept<'_>, into: &mut [u32]) -> Remaining
+    requires { SiftReady deck.now bounds source.numbers.now source.rest }
+    ensures { SiftedInto deck.now bounds into.old into.new result }
 {
+    // A deck of the loop's own, since what is borrowed is read anew after each write.
+    let own = deck.own();
     let polygons = deck.polygon_count();
     let looked_at = keeping::sought_count(polygons, source);
-    let room = into.len() - at;
+    let room = into.len();
     let mut count: usize = 0;
     'polygons: for j in 0..looked_at {
-        let k = keeping::sought(from, source, j);
-        if !may_pass(deck, k, bounds) {
+        let k = keeping::sought(source, j);
+        if !may_pass(&own, k, bounds) {
             continue;
         }
         if is_full(count, room, j + 1) {
-            return Kept {
-                start: at,
-                count,
-                rest: k,
-            };
+            return Remaining { count, rest: k };
         }
-        into[at + count] = k as u32;
+        into[count] = k as u32;
         count += 1;
     }
-    Kept {
-        start: at,
+    Remaining {
         count,
         rest: polygons,
     }
 }
 
-// Of all polygons of a deck, those that some sample of the steps up to `last` around p may reach, kept from `at` on.
-pub fn sift_deck(
-    deck: &Deck<'_>,
-    p: Vec2,
-    reach: f32,
-    last: usize,
-    into: &mut [u32],
-    at: usize,
-) -> Kept
-    requires { Around p reach last × (at ≤ length into.old) }
-    ensures { SiftedInto deck.now (step_box p reach last) at into.old into.new result }
+// Of all polygons of a deck, those that some sample of the steps up to `last` around p may reach.
+pub fn sift_deck(deck: &Deck<'_>, p: Vec2, reach: f32, last: usize, into: &mut [u32]) -> Remaining
+    requires { Around p reach last }
+    ensures { SiftedInto deck.now (step_box p reach last) into.old into.new result }
 {
     let bounds = boxes::step_box(p, reach, last);
-    sift(deck, bounds, &[], keeping::every_polygon(), into, at)
+    sift(deck, bounds, keeping::every_polygon(), into)
 }
 
 // The turn of a deck in step s around p. The list is sifted once more, with the box of that step: a box test for each of its polygons, and then a point
 // test for each that is left at each sample.
 pub fn turn(
     deck: &Deck<'_>,
-    t: &[i32; 2432],
+    table: &[i32; 2432],
     p: Vec2,
     reach: f32,
     s: usize,
-    array: &[u32],
-    kept: Kept,
+    kept: Kept<'_>,
     near: &mut [u32],
 ) -> Option<Hit>
-    requires { Around p reach s × ((t.now ≡ directions)
-        × KeptOver deck.now (step_box p reach s) array.now kept) }
+    requires { Around p reach s × ((table.now ≡ directions)
+        × KeptOver deck.now (step_box p reach s) kept.numbers.now kept.rest) }
     ensures { result ≡ deck_turn deck.now p reach s }
 {
-    let nearer = sift(deck, boxes::step_box(p, reach, s), array, kept, near, 0);
-    keeping::first_hit(deck, t, p, reach, s, near, nearer)
+    let left = sift(deck, boxes::step_box(p, reach, s), kept, near);
+    let nearer = Kept {
+        numbers: &near[..left.count],
+        rest: left.rest,
+    };
+    keeping::first_hit(deck, table, p, reach, s, nearer)
 }

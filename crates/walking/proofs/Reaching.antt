@@ -26,9 +26,8 @@ use Rattle.ship.specs.Questions.{first_no}
 use Rattle.ship.specs.Within.{DeckWithin}
 use Rattle.ship.proofs.Facts.{decks_few, reach_from_zero, steps_range}
 use Rattle.ship.proofs.ModelFacts.{deck_of_within, decode_reach}
-use Rattle.keeping.specs.declared.Kept.{Kept}
 use Rattle.keeping.specs.Kept.{KeptAt}
-use Rattle.keeping.specs.Lists.{list_at, ListsRoom}
+use Rattle.keeping.specs.Lists.{list_at, numbers_at, LiesIn, ListsRoom}
 use Rattle.sifting.specs.Sifted.{KeptOver, Around}
 use Rattle.sifting.proofs.SiftLoop.{over_at}
 use Rattle.survey.specs.Search.{turn}
@@ -54,8 +53,8 @@ unfolding held
 around_within w o = record { x = sub_within (by_test 3000000 tt) (omega arith) w.x o.x; y = sub_within (by_test 3000000 tt) (omega arith) w.y o.y }
 
 -- ---- a box that lies in another
-pub over_inner : {deck : Deck} {bounds inner : BoundingBox} {array : List ℕ} {kept : Kept} → KeptOver deck bounds array kept
-    → ((q : Vec2) → InBox inner q → InBox bounds q) → KeptOver deck inner array kept
+pub over_inner : {deck : Deck} {bounds inner : BoundingBox} {numbers : List ℕ} {rest : ℕ} → KeptOver deck bounds numbers rest
+    → ((q : Vec2) → InBox inner q → InBox bounds q) → KeptOver deck inner numbers rest
 over_inner over h = record { list = over.list; others = λ q i. over.others q (h q i) }
 
 -- ---- deck d, read, and the point around which its samples lie
@@ -91,6 +90,9 @@ module _ {file : List ℕ} {table : List ℤ} {p : Vec2} {d s : ℕ} {array : Li
   pub turn_room : ListsRoom array
   turn_room = ready.sifted.room
 
+  pub turn_lies : LiesIn array (list_at array d)
+  turn_lies = (ready.sifted.lists d ready.turn.deck).inside
+
   pub turn_deck : d < 256
   turn_deck = omega (arith, ready.turn.deck, decks_few file file_passed)
 
@@ -104,24 +106,25 @@ module _ {file : List ℕ} {table : List ℤ} {p : Vec2} {d s : ℕ} {array : Li
           step_few = step_few file file_passed ready.turn.step;
         }
 
-    pub turn_kept : {list : Kept} → list ≡ list_at array d → KeptOver deck (step_box around reach s) array list
-    turn_kept l =
-        rw (l, moved, read, reached, is)
-        (over_inner (ready.sifted.lists d ready.turn.deck) (in_search file file_passed ready.turn.deck ready.place_within ready.turn.step))
+    pub turn_kept : {numbers : List ℕ} {rest : ℕ} → numbers ≡ numbers_at array (list_at array d) → rest ≡ (list_at array d).rest
+        → KeptOver deck (step_box around reach s) numbers rest
+    turn_kept l r =
+        rw (l, r, moved, read, reached, is)
+        (over_inner (ready.sifted.lists d ready.turn.deck).over (in_search file file_passed ready.turn.deck ready.place_within ready.turn.step))
 
     pub turn_found : {hit : Option Hit} → hit ≡ deck_turn deck around reach s → hit ≡ turn (shown_by file p) s d
     turn_found e = turn_shown file d is p read moved reached s e
 
-pub ruleset turns = (turn_room, turn_deck, turn_around, turn_kept)
+pub ruleset turns = (turn_room, turn_lies, turn_deck, turn_around, turn_kept)
 
 -- ---- `next_passing`
-pub passing_kept : {file : List ℕ} {table : List ℤ} {p : Vec2} {c : Candidate} {array : List ℕ} {deck : Deck} {q : Vec2} {list : Kept}
-    → TurnReady file table p c.deck c.step array → CandidateIn file c → deck ≡ deck_of (decode file) c.deck → q ≡ sample_on (decode file) p c → list ≡ list_at array c.deck
-    → KeptAt deck array list q
+pub passing_kept : {file : List ℕ} {table : List ℤ} {p : Vec2} {c : Candidate} {array : List ℕ} {deck : Deck} {q : Vec2} {numbers : List ℕ} {rest : ℕ}
+    → TurnReady file table p c.deck c.step array → CandidateIn file c → deck ≡ deck_of (decode file) c.deck → q ≡ sample_on (decode file) p c → numbers ≡ numbers_at array (list_at array c.deck)
+    → rest ≡ (list_at array c.deck).rest → KeptAt deck numbers rest q
 unfolding sample_on
-passing_kept {file} {c = c} ready on is at l =
+passing_kept {file} {c = c} ready on is at l r =
     let turn = ready.turn in
-    rw (l, at, is)
-    (over_at (ready.sifted.lists c.deck turn.deck) (sample_in_search file ready.file_ready.file_passed turn.deck ready.place_within turn.step c.sample))
+    rw (l, r, at, is)
+    (over_at (ready.sifted.lists c.deck turn.deck).over (sample_in_search file ready.file_ready.file_passed turn.deck ready.place_within turn.step c.sample))
 
-pub ruleset nexts = (turn_room, turn_deck, passing_kept)
+pub ruleset nexts = (turn_room, turn_lies, turn_deck, passing_kept)

@@ -1,4 +1,4 @@
-// One walk over the candidates of a step on a ship ship, in their order (document 01, section 5). Who walks decides what becomes of them:
+// One walk over the candidates of a step on a ship, in their order (document 01, section 5). Who walks decides what becomes of them:
 // the run chooses one, a call writes them. Before its first step the decks are sifted, and every step looks at the lists that were kept.
 #![tactic(auto)]
 
@@ -7,14 +7,15 @@ ghost use Rattle.ship.specs.Layout.{decks_in, steps_in};
 ghost use Rattle.ship.specs.Decode.{decode};
 ghost use Rattle.survey.specs.Search.{turn, candidates};
 ghost use Rattle.walking.specs.Sees.{sample_on, shown_by, seen_by, TurnIn, CandidateIn};
-ghost use Rattle.walking.specs.Lists.{Sifted, WalkReady, ListsReady, ListsBelow, DeckListed};
+ghost use Rattle.walking.specs.Lists.{Sifted, WalkReady, ListsReady, DeckReady, DeckListed};
 ghost use Rattle.walking.specs.Walk.{passing_after, WalkedFrom, WalkedStep, WalkedAfter};
 ghost use Rattle.walking.specs.Ready.{walk_ready_prop};
 
 use decks::Ship;
 use geometry::{Height, Vec2};
 use hits::{Candidate, Hit};
-use keeping::{Kept, LISTS_SIZE};
+use keeping::{LISTS_SIZE, Listed};
+use sifting::Remaining;
 use survey::Seat;
 
 // The search of a seat: the ship, the blocked decks, the table of directions, the seat, and the decks' kept lists, which serve each of its steps.
@@ -47,34 +48,27 @@ pub enum Next {
     Ended(usize),
 }
 
-// The polygons of deck d that a sample of the search around p may reach, in a list whose numbers stand from `at` on.
-fn reached_on(ship: &Ship<'_>, p: Vec2, d: usize, kept: &mut [u32], at: usize) -> Kept
-    requires { ListsBelow ship.now p kept.old at d × (d < decks_in ship.now) }
-    ensures { DeckListed ship.now p d at kept.old kept.new result }
+// The polygons of deck d that a sample of the search around p may reach.
+fn reached_on(ship: &Ship<'_>, p: Vec2, d: usize, room: &mut [u32]) -> Remaining
+    requires { DeckReady ship.now p d }
+    ensures { DeckListed ship.now p d room.old room.new result }
 {
     let deck = ship.deck(d);
     let around = p - deck.offset();
     let last = ship.steps() - 1;
-    sifting::sift_deck(&deck, around, ship.reach(), last, kept, at)
+    sifting::sift_deck(&deck, around, ship.reach(), last, room)
 }
 
-// Deck d's list. A deck that is not open is not gone over.
-fn deck_list(
-    ship: &Ship<'_>,
-    blocked: &[u8],
-    seat: Seat,
-    d: usize,
-    kept: &mut [u32],
-    at: usize,
-) -> Kept
-    requires { ListsBelow ship.now seat.place kept.old at d × ((d < decks_in ship.now) × (length blocked.now ≡ 32)) }
-    ensures { DeckListed ship.now seat.place d at kept.old kept.new result }
+// Deck d's list. A deck that is not open is not gone over: of it every polygon stays one to look at.
+fn deck_list(ship: &Ship<'_>, blocked: &[u8], seat: Seat, d: usize, room: &mut [u32]) -> Remaining
+    requires { DeckReady ship.now seat.place d × (length blocked.now ≡ 32) }
+    ensures { DeckListed ship.now seat.place d room.old room.new result }
 {
     let choice = seat.choice;
     if survey::is_open(blocked, choice, d) {
-        return reached_on(ship, seat.place, d, kept, at);
+        return reached_on(ship, seat.place, d, room);
     }
-    keeping::every_polygon()
+    Remaining { count: 0, rest: 0 }
 }
 
 // Each deck's list, before the first step of a seat's search.
@@ -85,9 +79,17 @@ pub fn sift_decks(ship: &Ship<'_>, blocked: &[u8], seat: Seat, kept: &mut [u32])
     let decks = ship.deck_count();
     let mut at = LISTS_SIZE;
     'decks: for d in 0..decks {
-        let list = deck_list(ship, blocked, seat, d, kept, at);
-        keeping::put_list(kept, d, list);
-        at += list.count;
+        let Remaining { count, rest } = deck_list(ship, blocked, seat, d, &mut kept[at..]);
+        keeping::put_list(
+            kept,
+            d,
+            Listed {
+                start: at,
+                count,
+                rest,
+            },
+        );
+        at += count;
     }
 }
 
@@ -102,16 +104,7 @@ impl<'a> Search<'a> {
         let deck = self.ship.deck(d);
         let around = self.seat.place - deck.offset();
         let list = keeping::list_of(self.kept, d);
-        sifting::turn(
-            &deck,
-            self.table,
-            around,
-            self.ship.reach(),
-            s,
-            self.kept,
-            list,
-            near,
-        )
+        sifting::turn(&deck, self.table, around, self.ship.reach(), s, list, near)
     }
 
     // The candidate's sample, in the coordinates of its deck.
@@ -149,7 +142,7 @@ impl<'a> Search<'a> {
         let deck = self.ship.deck(c.deck);
         let q = self.sample_on(c);
         let list = keeping::list_of(self.kept, c.deck);
-        keeping::next_hit(&deck, q, c.sample, c.polygon + 1, self.kept, list)
+        keeping::next_hit(&deck, q, c.sample, c.polygon + 1, list)
     }
 
     // The first candidate of step s on the decks from d on.

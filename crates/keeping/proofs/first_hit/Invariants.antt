@@ -5,7 +5,7 @@ use Rattle.keeping.proofs.Looking.{SamplesLeft, Looked}
 use Rattle.keeping.proofs.first_hit.Given as goal
 
 abbrev pub invariant-polygons : goal.invariant-polygons
-invariant-polygons l = Looked l.deck l.array l.kept l.q 0 l.j
+invariant-polygons l = Looked l.deck l.kept.numbers.now l.kept.rest l.q 0 l.j
 
 abbrev pub invariant-samples : goal.invariant-samples
 invariant-samples l = (l.i < l.samples) × SamplesLeft l.deck l.p l.reach l.s l.i

@@ -3,4 +3,4 @@ use Rattle.keeping.proofs.Looking.{Looked}
 use Rattle.keeping.proofs.next_hit.Given as goal
 
 abbrev pub invariant-polygons : goal.invariant-polygons
-invariant-polygons l = Looked l.deck l.array l.kept l.q l.k l.j
+invariant-polygons l = Looked l.deck l.kept.numbers.now l.kept.rest l.q l.k l.j

@@ -17,8 +17,8 @@ may_pass-requires c = search (sifting, rules)
 pub overflow_cast-into : goal.overflow_cast-into
 overflow_cast-into c = search (sifting, rules)
 
-pub bounds-into-at : goal.bounds-into-at
-bounds-into-at c = search (sifting, rules)
+pub bounds-into-count : goal.bounds-into-count
+bounds-into-count c = search (sifting, rules)
 
 pub polygons-preserved-then-not-may_pass : goal.polygons-preserved-then-not-may_pass
 polygons-preserved-then-not-may_pass c = search (sifting, rules)

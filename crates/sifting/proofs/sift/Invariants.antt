@@ -3,4 +3,4 @@ use Rattle.sifting.proofs.SiftLoop.{Sifting}
 use Rattle.sifting.proofs.sift.Given as goal
 
 abbrev pub invariant-polygons : goal.invariant-polygons
-invariant-polygons l = Sifting l.deck l.bounds l.from l.source l.at l.initial.into l.count l.j l.into
+invariant-polygons l = Sifting l.deck l.bounds l.source.numbers.now l.source.rest l.initial.into l.count l.j l.into

@@ -5,17 +5,14 @@ use Rattle.walking.proofs.sift_decks.Goals as goal
 
 pub put_list-requires : goal.put_list-requires
 put_list-requires c =
-    let below = c.decks.invariant.1.1 in (
-      list_room below (search rules) c.deck_list-list.ensures,
-      (deck_few below (search rules), (list_place below (search rules) c.deck_list-list.ensures, list_rest below (search rules) c.deck_list-list.ensures)),
-    )
+    let below = c.decks.invariant.1.1 in
+    let list = c.deck_list-count.ensures in
+    (list_room below (search rules) list, (deck_few below (search rules), (list_place below (search rules) list, list_rest below (search rules) list)))
 
 pub decks-preserved : goal.decks-preserved
 decks-preserved c =
-    let loop = c.decks in (
+    let below = c.decks.invariant.1.1 in
+    let list = c.deck_list-count.ensures in (
       search rules,
-      (
-        list_long loop.invariant.1.1 (search rules) c.deck_list-list.ensures c.put_list.ensures ∙ loop.invariant.1.0,
-        one_list_more loop.invariant.1.1 (search rules) c.deck_list-list.ensures c.put_list.ensures,
-      ),
+      (list_long below (search rules) list c.put_list.ensures ∙ c.decks.invariant.1.0, one_list_more below (search rules) list c.put_list.ensures),
     )
