@@ -4,12 +4,11 @@
 ghost use Rattle.std.specs.Prelude.{◌≡◌, [], ◌∷◌, ◌+◌, ◌<◌};
 ghost use Rattle.ship.specs.Layout.{decks_in};
 ghost use Rattle.ship.specs.Decode.{decode};
-ghost use Rattle.ship.specs.Questions.{first_no};
 ghost use Rattle.stitching.specs.Points.{stitches_between, stitches_from, stitch_points, StitchPointsReplied};
 ghost use Rattle.stitching.specs.Walk.{counted, stitch_point, stitches_on, PointReady, StitchesPut};
 
 use answers::{Answer, Refusal};
-use decks::Deck;
+use decks::{Deck, Ship};
 use geometry::Vec2;
 
 const STITCH_SIZE: usize = 16;
@@ -52,12 +51,12 @@ fn put_at(a: usize, p: Vec2, b: usize, to: &Deck<'_>, n: usize, out: &mut [u8]) 
 }
 
 // Each vertex of deck a against those of deck b.
-fn put_between(file: &[u8], a: usize, b: usize, n: usize, out: &mut [u8]) -> usize
-    requires { (first_no file.now ≡ Ok tt) × ((a < decks_in file.now) × (b < decks_in file.now)) }
-    ensures { StitchesPut (stitches_between (decode file.now) a b) n out.old out.new result }
+fn put_between(ship: &Ship<'_>, a: usize, b: usize, n: usize, out: &mut [u8]) -> usize
+    requires { (a < decks_in ship.now) × (b < decks_in ship.now) }
+    ensures { StitchesPut (stitches_between (decode ship.now) a b) n out.old out.new result }
 {
-    let from = Deck::of(file, a);
-    let to = Deck::of(file, b);
+    let from = ship.deck(a);
+    let to = ship.deck(b);
     let vertices = from.vertex_count();
     let mut count = n;
     'vertices: for k in 0..vertices {
@@ -67,27 +66,26 @@ fn put_between(file: &[u8], a: usize, b: usize, n: usize, out: &mut [u8]) -> usi
 }
 
 // Deck a against each deck after it.
-fn put_from(file: &[u8], a: usize, n: usize, out: &mut [u8]) -> usize
-    requires { (first_no file.now ≡ Ok tt) × (a < decks_in file.now) }
-    ensures { StitchesPut (stitches_from (decode file.now) a) n out.old out.new result }
+fn put_from(ship: &Ship<'_>, a: usize, n: usize, out: &mut [u8]) -> usize
+    requires { a < decks_in ship.now }
+    ensures { StitchesPut (stitches_from (decode ship.now) a) n out.old out.new result }
 {
-    let decks = decks::deck_count(file);
+    let decks = ship.deck_count();
     let mut count = n;
     'decks: for b in a + 1..decks {
-        count = put_between(file, a, b, count, out);
+        count = put_between(ship, a, b, count, out);
     }
     count
 }
 
 // The walk over all pairs. It writes what the output has room for, and counts all.
-fn put_all(file: &[u8], out: &mut [u8]) -> usize
-    requires { first_no file.now ≡ Ok tt }
-    ensures { StitchesPut (stitch_points (decode file.now)) 0 out.old out.new result }
+fn put_all(ship: &Ship<'_>, out: &mut [u8]) -> usize
+    ensures { StitchesPut (stitch_points (decode ship.now)) 0 out.old out.new result }
 {
-    let decks = decks::deck_count(file);
+    let decks = ship.deck_count();
     let mut count: usize = 0;
     'decks: for a in 0..decks {
-        count = put_from(file, a, count, out);
+        count = put_from(ship, a, count, out);
     }
     count
 }
@@ -97,11 +95,11 @@ fn put_all(file: &[u8], out: &mut [u8]) -> usize
 pub fn find_stitch_points(file: &[u8], out: &mut [u8]) -> Answer
     ensures { StitchPointsReplied file.now out.old out.new result }
 {
-    ship::first_no(file)?;
-    let count = put_all(file, &mut []);
+    let ship = Ship::open(file)?;
+    let count = put_all(&ship, &mut []);
     if !answers::room_for(STITCH_SIZE, count, out.len()) {
         return Err(Refusal::NoRoom);
     }
-    put_all(file, out);
+    put_all(&ship, out);
     Ok(count)
 }

@@ -7,4 +7,4 @@ use Rattle.stitching.proofs.Putting.{Putting}
 use Rattle.stitching.proofs.put_all.Given as goal
 
 abbrev pub invariant-decks : goal.invariant-decks
-invariant-decks l = Putting (stitch_points (decode l.file)) 0 l.initial.out (collect_all (stitches_from (decode l.file)) l.a (l.decks - l.a)) l.count l.out
+invariant-decks l = Putting (stitch_points (decode l.ship)) 0 l.initial.out (collect_all (stitches_from (decode l.ship)) l.a (l.decks - l.a)) l.count l.out

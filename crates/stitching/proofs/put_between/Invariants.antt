@@ -6,4 +6,4 @@ use Rattle.stitching.proofs.Loops.{left_between}
 use Rattle.stitching.proofs.put_between.Given as goal
 
 abbrev pub invariant-vertices : goal.invariant-vertices
-invariant-vertices l = Putting (stitches_between (decode l.file) l.a l.b) l.n l.initial.out (left_between l.file l.a l.b l.vertices l.k) l.count l.out
+invariant-vertices l = Putting (stitches_between (decode l.ship) l.a l.b) l.n l.initial.out (left_between l.ship l.a l.b l.vertices l.k) l.count l.out

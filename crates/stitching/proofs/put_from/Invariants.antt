@@ -7,4 +7,4 @@ use Rattle.stitching.proofs.Putting.{Putting}
 use Rattle.stitching.proofs.put_from.Given as goal
 
 abbrev pub invariant-decks : goal.invariant-decks
-invariant-decks l = Putting (stitches_from (decode l.file) l.a) l.n l.initial.out (collect_all (stitches_between (decode l.file) l.a) l.b (l.decks - l.b)) l.count l.out
+invariant-decks l = Putting (stitches_from (decode l.ship) l.a) l.n l.initial.out (collect_all (stitches_between (decode l.ship) l.a) l.b (l.decks - l.b)) l.count l.out
