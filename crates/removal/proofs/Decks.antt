@@ -55,6 +55,11 @@ module _ {s : List ℕ} {b : Blocks} {out : List ℕ} {at : ℕ} (h : PartReady 
 pub ruleset rest = (rest_below, rest_inside, rest_room, heights_fit, end_fits, rest_put)
 
 -- ---- `put_deck`
+-- what is read of the deck
+pub ready_read : {which which' : Stitches} {s s' : List ℕ} {d d' : ℕ} {out : List ℕ} {at : ℕ} → (s' ≡ s) × ((which' ≡ which) × (d' ≡ d)) → DeckReady which s d out at
+    → DeckReady which' s' d' out at
+ready_read e h = rw (e.0, e.1.0, e.1.1) h
+
 module _ {which : Stitches} {s : List ℕ} {d : ℕ} {out : List ℕ} {at : ℕ} (h : DeckReady which s d out at) {b : Blocks} (is : b ≡ blocks_at s d) (deck : DeckOfPassed s b) where
   room : at + (length (new_v which s d b) + length (new_n which s d b) + length (rest_of s b)) ≤ length out
   unfolding new_blocks
@@ -89,16 +94,14 @@ module _ {which : Stitches} {s : List ℕ} {d : ℕ} {out : List ℕ} {at : ℕ}
             let vn = put_put p (omega (arith, room, p.next_is)) q in
             rw is at (put_put vn (omega (arith, room, vn.next_is, length-append (new_v which s d b) (new_n which s d b))) r)
 
-pub ruleset deck = (v_ready, n_ready, rest_ready, deck_long, deck_put)
-
 -- ---- `put_decks`: the decks before d are put
 pub record DecksPut (which : Stitches) (s out₀ out : List ℕ) (at d : ℕ) : Type 0 where
   pub passed : first_no s ≡ Ok tt
   pub put : PiecesPut (λ k. true) (blocks_in which s) (decks_in s) out₀ (blocks_position s) out at d
 
-pub decks_all : {which : Stitches} {s out : List ℕ} {n : ℕ} → FileReady which s out → n ≡ decks_in s → DecksPut which s out out (header_size + deck_row_size * n) 0
+pub decks_all : {which : Stitches} {s out : List ℕ} {n : ℕ} → first_no s ≡ Ok tt → FileReady which s out → n ≡ decks_in s → DecksPut which s out out (header_size + deck_row_size * n) 0
 unfolding all_blocks
-decks_all {which} {s} h e = rw e (record { passed = h.passed; put = pieces_all (omega (arith, h.room, parts_length which s h.passed)) })
+decks_all {which} {s} passed h e = rw e (record { passed = passed; put = pieces_all (omega (arith, h.room, parts_length which s passed)) })
 
 module _ {which : Stitches} {s out₀ out : List ℕ} {at d n : ℕ} (c : DecksPut which s out₀ out at d) (e : n ≡ decks_in s) where
   pub decks_long : length out ≡ length out₀
@@ -110,7 +113,7 @@ module _ {which : Stitches} {s out₀ out : List ℕ} {at d n : ℕ} (c : DecksP
 
   module _ (h : d < n) where
     pub deck_ready : DeckReady which s d out at
-    deck_ready = record { passed = c.passed; there = omega arith; room = pieces_room c.put (omega arith) refl }
+    deck_ready = record { there = omega arith; room = pieces_room c.put (omega arith) refl }
 
     pub decks_more : {out' : List ℕ} {next : ℕ} → Put out at (new_blocks which s d (blocks_at s d)) out' next → DecksPut which s out₀ out' next (d + 1)
     decks_more p = record { passed = c.passed; put = pieces_yes c.put (omega arith) refl p.out_is p.next_is }

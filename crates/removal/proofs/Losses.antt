@@ -35,7 +35,9 @@ pub deck_less : {which : Stitches} {s : List ℕ} {d : ℕ} {b : Blocks} {kept :
     → LostInDeck which s d (number_size * (b.neighbours - kept))
 deck_less {which} {s} {d} {b} is count = rw (count, is) (record { is = omega (arith, kept_few which s d (blocks_at s d) (blocks_at s d).neighbours 0) })
 
-pub ruleset deck_losses = (all_inside, less_fits, deck_less)
+-- what is read of the deck
+pub less_read : {which which' : Stitches} {s s' : List ℕ} {d d' less : ℕ} → (s' ≡ s) × ((which' ≡ which) × (d' ≡ d)) → LostInDeck which' s' d' less → LostInDeck which s d less
+less_read e l = rw (← e.0, ← e.1.0, ← e.1.1) l
 
 -- ---- `lost_in_block`
 -- entry k of list d, where each list has `size` entries
@@ -100,34 +102,37 @@ pub ruleset block_losses = (block_same, block_less)
 -- ---- `new_size`: the decks before d lost so many bytes
 pub record Shrunk (which : Stitches) (s : List ℕ) (lost d : ℕ) : Type 0 where
   pub passed : first_no s ≡ Ok tt
+  pub fits : length s < 2 ^ 64
   pub below : d ≤ decks_in s
   pub few : lost ≤ block_start s (blocks_per_deck * d)
   pub same : blocks_position s + length (all_blocks which s) + lost
       ≡ block_start s (blocks_per_deck * d) + length (collect_all (blocks_in which s) d (decks_in s - d))
 
-pub shrunk_all : (which : Stitches) {s : List ℕ} → first_no s ≡ Ok tt → Shrunk which s 0 0
+-- t is what is read of the ship
+pub shrunk_all : (which : Stitches) {s t : List ℕ} → first_no s ≡ Ok tt → t ≡ s → length t < 2 ^ 64 → Shrunk which s 0 0
 unfolding all_blocks
-shrunk_all which {s} passed =
+shrunk_all which {s} passed same small =
     let e : decks_in s - 0 ≡ decks_in s = omega arith in
-    record { passed = passed; below = omega arith; few = omega arith; same = rw e (omega (arith, block_first s passed)) }
+    record { passed = passed; fits = rw same at small; below = omega arith; few = omega arith; same = rw e (omega (arith, block_first s passed)) }
 
 module _ {which : Stitches} {s : List ℕ} {lost d n : ℕ} (c : Shrunk which s lost d) (all : n ≡ decks_in s) where
   module _ (h : n ≤ d) where
     at_end : block_start s (blocks_per_deck * d) ≡ length s
     at_end = let e : d ≡ decks_in s = omega (arith, c.below) in rw e (block_end s)
 
-    pub lost_below : lost ≤ length s
-    lost_below = omega (arith, c.few, at_end)
+    pub lost_below : {t : List ℕ} → t ≡ s → lost ≤ length t
+    lost_below same = rw same (omega (arith, c.few, at_end))
 
-    pub size_is : length s - lost ≡ length (new_file which s)
-    size_is =
-        omega (
+    pub size_is : {t : List ℕ} → t ≡ s → length t - lost ≡ length (new_file which s)
+    size_is same =
+        rw same
+        (omega (
           arith,
           c.same,
           at_end,
           ap length (collect_none (λ k. true) (blocks_in which s) d (decks_in s) (omega arith)),
           parts_length which s c.passed,
-        )
+        ))
 
   module _ (h : d < n) where
     lie : Laid s (blocks_at s d)
@@ -144,8 +149,8 @@ module _ {which : Stitches} {s : List ℕ} {lost d n : ℕ} (c : Shrunk which s 
       next_few : lost + less ≤ block_start s (blocks_per_deck * (d + 1))
       next_few = omega (arith, c.few, l.is, from, to, lie.n_next, lie.p_next, lie.c_next, lie.h_next)
 
-      pub lost_fits : length s < 2 ^ 64 → Fits w64 (lost + less)
-      lost_fits room = record { fits = omega (arith, next_few, to, lie.inside.h_inside) }
+      pub lost_fits : Fits w64 (lost + less)
+      lost_fits = record { fits = omega (arith, c.fits, next_few, to, lie.inside.h_inside) }
 
       shorter : length (blocks_in which s d) + less + block_start s (blocks_per_deck * d) ≡ block_start s (blocks_per_deck * (d + 1))
       unfolding new_lengths
@@ -158,6 +163,7 @@ module _ {which : Stitches} {s : List ℕ} {lost d n : ℕ} (c : Shrunk which s 
           let next = collect_yes (λ k. true) (blocks_in which s) d (decks_in s) (omega arith) refl in
           record {
             passed = c.passed;
+            fits = c.fits;
             below = omega arith;
             few = next_few;
             same = omega (arith, c.same, shorter, ap length next, length-append (blocks_in which s d) later);

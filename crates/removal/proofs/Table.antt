@@ -11,7 +11,7 @@ use lib.Seq.{drop-cons}
 use Rattle.words.specs.Bytes.{bytes4, joined, words_of, splice}
 use Rattle.words.proofs.Splice.{length_splice, splice_splice, splice_nil}
 use Rattle.ship.specs.declared.Extent.{Extent}
-use Rattle.ship.specs.Layout.{header_size, pair_size, blocks_per_deck, decks_in, blocks_position, block_at}
+use Rattle.ship.specs.Layout.{header_size, pair_size, blocks_per_deck, decks_in, blocks_position, extent_at, block_at}
 use Rattle.ship.specs.Questions.{first_no}
 use Rattle.ship.proofs.Passed.{passed_header}
 use Rattle.ship.proofs.Inside.{table_there}
@@ -39,15 +39,15 @@ pub record TablePut (which : Stitches) (s out₀ out : List ℕ) (lost j : ℕ) 
   pub next_is : next + lost ≡ block_start s j
   pub same : splice out₀ header_size (new_table which s) ≡ splice out (header_size + pair_size * j) (words_of (pairs next (drop j (block_lengths which s))))
 
-pub table_all : {which : Stitches} {s out : List ℕ} → FileReady which s out → TablePut which s out out 0 0
+pub table_all : {which : Stitches} {s out : List ℕ} → first_no s ≡ Ok tt → FileReady which s out → TablePut which s out out 0 0
 unfolding new_table
-table_all {which} {s} h =
+table_all {which} {s} passed h =
     record {
-      passed = h.passed;
-      room = omega (arith, h.room, parts_length which s h.passed);
+      passed = passed;
+      room = omega (arith, h.room, parts_length which s passed);
       long = refl;
       next = blocks_position s;
-      next_is = omega (arith, block_first s h.passed);
+      next_is = omega (arith, block_first s passed);
       same = refl;
     }
 
@@ -65,8 +65,9 @@ module _ {which : Stitches} {s out₀ out : List ℕ} {lost j n : ℕ} (c : Tabl
     pub block_there : j < blocks_per_deck * decks_in s
     block_there = omega arith
 
-    pub pair_inside : header_size + pair_size * j + pair_size ≤ length s
-    pair_inside = omega (arith, table_there s (passed_header s c.passed))
+    -- t is what is read of the ship
+    pub pair_inside : {t : List ℕ} → t ≡ s → header_size + pair_size * j + pair_size ≤ length t
+    pair_inside same = rw same (omega (arith, table_there s (passed_header s c.passed)))
 
     pub pair_room : header_size + pair_size * j + pair_size ≤ length out
     pair_room = omega (arith, c.room, c.long)
@@ -113,4 +114,7 @@ module _ {which : Stitches} {s out₀ out : List ℕ} {lost j n : ℕ} (c : Tabl
                   ∙ rw (w', q);
             }
 
-pub ruleset table = (table_all, table_long, table_none, block_there, pair_inside, pair_room, lost_low, less_low, lost_fits, table_more)
+pub pair_read : {s t : List ℕ} {block : Extent} (j : ℕ) → t ≡ s → block ≡ extent_at t header_size pair_size j → block ≡ block_at s j
+pair_read j same read = read ∙ rw same
+
+pub ruleset table = (pair_read, table_all, table_long, table_none, block_there, pair_inside, pair_room, lost_low, less_low, lost_fits, table_more)

@@ -1,9 +1,9 @@
 -- What the inner functions of a removal need and promise: parts of the new file put into the output, and bytes that are left out.
-use Rattle.std.specs.Prelude.{ℕ, ◌+◌, ◌*◌, ◌≤◌, ◌<◌, ◌≡◌, List, length, get_or, Ok}
+use Rattle.std.specs.Prelude.{ℕ, ◌+◌, ◌*◌, ◌≤◌, ◌<◌, ◌≡◌, List, length, get_or}
 use Rattle.words.specs.Bytes.{splice}
 use Rattle.ship.specs.declared.Blocks.{Blocks}
 use Rattle.ship.specs.Layout.{number_size, pair_size, vertex_size, first_list, decks_in, blocks_at, block_at, neighbour_extent}
-use Rattle.ship.specs.Questions.{first_no, DeckOfPassed}
+use Rattle.ship.specs.Questions.{DeckOfPassed}
 use Rattle.unstitched.specs.declared.Stitches.{Stitches}
 use Rattle.unstitched.specs.NewFile.{kept_from, new_blocks, block_lengths, new_file}
 
@@ -15,13 +15,11 @@ pub record PartReady (s : List ℕ) (b : Blocks) (bytes out : List ℕ) (at : �
 
 -- what a function needs that puts all blocks of deck d
 pub record DeckReady (which : Stitches) (s : List ℕ) (d : ℕ) (out : List ℕ) (at : ℕ) : Type 0 where
-  pub passed : first_no s ≡ Ok tt
   pub there : d < decks_in s
   pub room : at + length (new_blocks which s d (blocks_at s d)) ≤ length out
 
 -- what a function needs that puts the whole file, or its table or its blocks where they stand in it
 pub record FileReady (which : Stitches) (s out : List ℕ) : Type 0 where
-  pub passed : first_no s ≡ Ok tt
   pub room : length (new_file which s) ≤ length out
 
 -- ---- a vertex

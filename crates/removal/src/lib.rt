@@ -4,17 +4,18 @@
 ghost use Rattle.std.specs.Prelude.{◌≡◌, ◌+◌, ◌*◌, ◌≤◌, ◌<◌, length};
 ghost use Rattle.words.specs.Bytes.{words_of, slice, splice, Put};
 ghost use Rattle.ship.specs.Layout.{header_size, blocks_per_deck, list_in_vertex, decks_in, blocks_position, blocks_at};
-ghost use Rattle.ship.specs.Questions.{first_no};
+ghost use Rattle.ship.specs.Questions.{first_no, DeckOfPassed};
 ghost use Rattle.unstitched.specs.declared.Stitches.TheVariants.{All, ToLayer};
 ghost use Rattle.unstitched.specs.NewFile.{new_vertex, new_v, new_n, new_blocks, new_table, new_file, RemovalReplied, RemovalSound, rest_of, all_blocks, new_extent};
 ghost use Rattle.removal.specs.Parts.{PartReady, DeckReady, FileReady, ListReady, ListPut, LostInBlock, LostInDeck};
 
 use answers::{Answer, Refusal};
+use decks::Ship;
 use ship::{
-    BLOCKS_PER_DECK, Blocks, DECK_OFFSET_SIZE, DECK_ROW_SIZE, FIRST_LIST, HEADER_SIZE,
-    LIST_IN_VERTEX, NUMBER_SIZE, PAIR_SIZE, VERTEX_SIZE,
+    BLOCKS_PER_DECK, DECK_OFFSET_SIZE, DECK_ROW_SIZE, FIRST_LIST, HEADER_SIZE, LIST_IN_VERTEX,
+    NUMBER_SIZE, PAIR_SIZE, VERTEX_SIZE,
 };
-use unstitched::Stitches;
+use unstitched::{OldDeck, Rule, Stitches};
 
 // The `size` bytes of the file from `from` on, put at `at`. Returns the position after them.
 fn copy_part(file: &[u8], from: usize, size: usize, at: usize, out: &mut [u8]) -> usize
@@ -26,156 +27,143 @@ fn copy_part(file: &[u8], from: usize, size: usize, at: usize, out: &mut [u8]) -
 }
 
 // What stays of N, from `at` on. Returns the position after it.
-fn put_neighbours(
-    file: &[u8],
-    which: Stitches,
-    d: usize,
-    b: Blocks,
-    at: usize,
-    out: &mut [u8],
-) -> usize
-    requires { PartReady file.now b (new_n which file.now d b) out.old at }
-    ensures { Put out.old at (new_n which file.now d b) out.new result }
+fn put_neighbours(old: &OldDeck<'_>, at: usize, out: &mut [u8]) -> usize
+    requires { PartReady old.now.file.now old.now.blocks
+        (new_n old.now.rule.which old.now.file.now old.now.rule.deck old.now.blocks) out.old at }
+    ensures { Put out.old at (new_n old.now.rule.which old.now.file.now old.now.rule.deck old.now.blocks) out.new result }
 {
     let mut next = at;
-    'entries: for i in 0..b.neighbours {
-        let entry = words::u32_at(file, b.n + NUMBER_SIZE * i);
-        if !unstitched::keeps(which, d, entry) {
+    // A for: what is written moves on for those alone that stay.
+    'entries: for i in 0..old.blocks.neighbours {
+        let entry = words::u32_at(old.file, old.blocks.n + NUMBER_SIZE * i);
+        if !old.rule.keeps(entry) {
             continue;
         }
-        words::put_u32(out, next, unstitched::written_as(which, d, entry));
+        words::put_u32(out, next, old.rule.written_as(entry));
         next += NUMBER_SIZE;
     }
     next
 }
 
 // Start and count of vertex i's list, which begins at `start` now. Returns where the next one's begins.
-fn put_list(
-    file: &[u8],
-    which: Stitches,
-    d: usize,
-    b: Blocks,
-    i: usize,
-    start: usize,
-    at: usize,
-    out: &mut [u8],
-) -> usize
-    requires { ListReady which file.now d b i start out.old at }
-    ensures { ListPut which file.now d b i (words_of (new_extent which file.now d b i))
-        out.old at out.new result }
+fn put_list(old: &OldDeck<'_>, i: usize, start: usize, at: usize, out: &mut [u8]) -> usize
+    requires { ListReady old.now.rule.which old.now.file.now old.now.rule.deck old.now.blocks i start out.old at }
+    ensures { ListPut old.now.rule.which old.now.file.now old.now.rule.deck old.now.blocks i
+        (words_of (new_extent old.now.rule.which old.now.file.now old.now.rule.deck old.now.blocks i)) out.old at out.new result }
 {
-    let list = ship::extent_at(file, b.v + FIRST_LIST, VERTEX_SIZE, i);
-    let count = unstitched::kept_in(file, which, d, b, list.start, list.count);
+    let list = ship::extent_at(old.file, old.blocks.v + FIRST_LIST, VERTEX_SIZE, i);
+    let count = old.kept_in(list.start, list.count);
     let words = [start as u32, count as u32];
     words::put_words(out, at, &words);
     start + count
 }
 
 // Vertex i: x and y as they are, then its list. Returns where the next one's begins.
-fn put_vertex(
-    file: &[u8],
-    which: Stitches,
-    d: usize,
-    b: Blocks,
-    i: usize,
-    start: usize,
-    at: usize,
-    out: &mut [u8],
-) -> usize
-    requires { ListReady which file.now d b i start out.old (at + list_in_vertex) }
-    ensures { ListPut which file.now d b i (new_vertex which file.now d b i)
-        out.old at out.new result }
+fn put_vertex(old: &OldDeck<'_>, i: usize, start: usize, at: usize, out: &mut [u8]) -> usize
+    requires { ListReady old.now.rule.which old.now.file.now old.now.rule.deck old.now.blocks i start out.old (at + list_in_vertex) }
+    ensures { ListPut old.now.rule.which old.now.file.now old.now.rule.deck old.now.blocks i
+        (new_vertex old.now.rule.which old.now.file.now old.now.rule.deck old.now.blocks i) out.old at out.new result }
 {
-    let from = b.v + DECK_OFFSET_SIZE + VERTEX_SIZE * i;
-    let list = copy_part(file, from, LIST_IN_VERTEX, at, out);
-    put_list(file, which, d, b, i, start, list, out)
+    let from = old.blocks.v + DECK_OFFSET_SIZE + VERTEX_SIZE * i;
+    let list = copy_part(old.file, from, LIST_IN_VERTEX, at, out);
+    put_list(old, i, start, list, out)
 }
 
 // V: the deck's offset, then its vertices. Returns the position after it.
-fn put_vertices(
-    file: &[u8],
-    which: Stitches,
-    d: usize,
-    b: Blocks,
-    at: usize,
-    out: &mut [u8],
-) -> usize
-    requires { PartReady file.now b (new_v which file.now d b) out.old at }
-    ensures { Put out.old at (new_v which file.now d b) out.new result }
+fn put_vertices(old: &OldDeck<'_>, at: usize, out: &mut [u8]) -> usize
+    requires { PartReady old.now.file.now old.now.blocks
+        (new_v old.now.rule.which old.now.file.now old.now.rule.deck old.now.blocks) out.old at }
+    ensures { Put out.old at (new_v old.now.rule.which old.now.file.now old.now.rule.deck old.now.blocks) out.new result }
 {
-    let mut next = copy_part(file, b.v, DECK_OFFSET_SIZE, at, out);
+    let mut next = copy_part(old.file, old.blocks.v, DECK_OFFSET_SIZE, at, out);
     let mut start: usize = 0;
-    'vertices: for i in 0..b.vertices {
-        start = put_vertex(file, which, d, b, i, start, next, out);
+    // A for: a list begins where the one before it ends.
+    'vertices: for i in 0..old.blocks.vertices {
+        start = put_vertex(old, i, start, next, out);
         next += VERTEX_SIZE;
     }
     next
 }
 
 // P, C and H, which lie end to end, as they are. Returns the position after them.
-fn put_rest(file: &[u8], b: Blocks, at: usize, out: &mut [u8]) -> usize
-    requires { PartReady file.now b (rest_of file.now b) out.old at }
-    ensures { Put out.old at (rest_of file.now b) out.new result }
+fn put_rest(old: &OldDeck<'_>, at: usize, out: &mut [u8]) -> usize
+    requires { PartReady old.now.file.now old.now.blocks (rest_of old.now.file.now old.now.blocks) out.old at }
+    ensures { Put out.old at (rest_of old.now.file.now old.now.blocks) out.new result }
 {
+    let b = old.blocks;
     let end = b.h + NUMBER_SIZE * b.heights;
-    copy_part(file, b.p, end - b.p, at, out)
+    copy_part(old.file, b.p, end - b.p, at, out)
+}
+
+// Deck d, to be read as a removal reads it.
+fn old_deck<'a>(ship: &Ship<'a>, which: Stitches, d: usize) -> OldDeck<'a>
+    requires { d < decks_in ship.now }
+    ensures is { (result.file.now ≡ ship.now) × ((result.rule.which ≡ which) × (result.rule.deck ≡ d)) }
+    ensures lies { (result.blocks ≡ blocks_at result.file.now result.rule.deck) × DeckOfPassed result.file.now result.blocks }
+{
+    OldDeck {
+        file: ship.bytes(),
+        rule: Rule { which, deck: d },
+        blocks: ship.blocks(d),
+    }
 }
 
 // The blocks of deck d. Returns the position after them.
-fn put_deck(file: &[u8], which: Stitches, d: usize, at: usize, out: &mut [u8]) -> usize
-    requires { DeckReady which file.now d out.old at }
-    ensures { Put out.old at (new_blocks which file.now d (blocks_at file.now d))
+fn put_deck(ship: &Ship<'_>, which: Stitches, d: usize, at: usize, out: &mut [u8]) -> usize
+    requires { DeckReady which ship.now d out.old at }
+    ensures { Put out.old at (new_blocks which ship.now d (blocks_at ship.now d))
         out.new result }
 {
-    let b = decks::deck_blocks(file, d);
-    let n = put_vertices(file, which, d, b, at, out);
-    let p = put_neighbours(file, which, d, b, n, out);
-    put_rest(file, b, p, out)
+    let old = old_deck(ship, which, d);
+    let n = put_vertices(&old, at, out);
+    let p = put_neighbours(&old, n, out);
+    put_rest(&old, p, out)
 }
 
 // The blocks of all decks, past the header and the table.
-fn put_decks(file: &[u8], which: Stitches, out: &mut [u8])
-    requires { FileReady which file.now out.old }
-    ensures { out.new ≡ splice out.old (blocks_position file.now)
-        (all_blocks which file.now) }
+fn put_decks(ship: &Ship<'_>, which: Stitches, out: &mut [u8])
+    requires { FileReady which ship.now out.old }
+    ensures { out.new ≡ splice out.old (blocks_position ship.now)
+        (all_blocks which ship.now) }
 {
-    let decks = decks::deck_count(file);
+    let decks = ship.deck_count();
     let mut at = HEADER_SIZE + DECK_ROW_SIZE * decks;
     'decks: for d in 0..decks {
-        at = put_deck(file, which, d, at, out);
+        at = put_deck(ship, which, d, at, out);
     }
 }
 
 // How many bytes N of deck d loses.
-fn lost_in_deck(file: &[u8], which: Stitches, d: usize) -> usize
-    requires { (first_no file.now ≡ Ok tt) × (d < decks_in file.now) }
-    ensures { LostInDeck which file.now d result }
+fn lost_in_deck(ship: &Ship<'_>, which: Stitches, d: usize) -> usize
+    requires { d < decks_in ship.now }
+    ensures { LostInDeck which ship.now d result }
 {
-    let b = decks::deck_blocks(file, d);
-    NUMBER_SIZE * (b.neighbours - unstitched::kept_in(file, which, d, b, 0, b.neighbours))
+    let old = old_deck(ship, which, d);
+    NUMBER_SIZE * (old.blocks.neighbours - old.kept_in(0, old.blocks.neighbours))
 }
 
 // How many bytes block j of the file loses. N is the second of a deck's five blocks.
-fn lost_in_block(file: &[u8], which: Stitches, j: usize) -> usize
-    requires { (first_no file.now ≡ Ok tt) × (j < blocks_per_deck * decks_in file.now) }
-    ensures { LostInBlock which file.now j result }
+fn lost_in_block(ship: &Ship<'_>, which: Stitches, j: usize) -> usize
+    requires { (first_no ship.now ≡ Ok tt) × (j < blocks_per_deck * decks_in ship.now) }
+    ensures { LostInBlock which ship.now j result }
 {
     if j % BLOCKS_PER_DECK != 1 {
         return 0;
     }
-    lost_in_deck(file, which, j / BLOCKS_PER_DECK)
+    lost_in_deck(ship, which, j / BLOCKS_PER_DECK)
 }
 
 // The table: a block begins where it began, less what those before it lost.
-fn put_table(file: &[u8], which: Stitches, out: &mut [u8])
-    requires { FileReady which file.now out.old }
-    ensures { out.new ≡ splice out.old header_size (new_table which file.now) }
+fn put_table(ship: &Ship<'_>, which: Stitches, out: &mut [u8])
+    requires { FileReady which ship.now out.old }
+    ensures { out.new ≡ splice out.old header_size (new_table which ship.now) }
 {
-    let blocks = BLOCKS_PER_DECK * decks::deck_count(file);
+    let file = ship.bytes();
+    let blocks = BLOCKS_PER_DECK * ship.deck_count();
     let mut lost: usize = 0;
     'pairs: for j in 0..blocks {
         let block = ship::extent_at(file, HEADER_SIZE, PAIR_SIZE, j);
-        let here = lost_in_block(file, which, j);
+        let here = lost_in_block(ship, which, j);
         let words = [(block.start - lost) as u32, (block.count - here) as u32];
         words::put_words(out, HEADER_SIZE + PAIR_SIZE * j, &words);
         lost += here;
@@ -183,38 +171,38 @@ fn put_table(file: &[u8], which: Stitches, out: &mut [u8])
 }
 
 // How long the new file is, which question 20 asks before a byte is written.
-fn new_size(file: &[u8], which: Stitches) -> usize
-    requires { first_no file.now ≡ Ok tt }
-    ensures { result ≡ length (new_file which file.now) }
+fn new_size(ship: &Ship<'_>, which: Stitches) -> usize
+    ensures { result ≡ length (new_file which ship.now) }
 {
-    let decks = decks::deck_count(file);
+    let file = ship.bytes();
+    let decks = ship.deck_count();
     let mut lost: usize = 0;
     'decks: for d in 0..decks {
-        lost += lost_in_deck(file, which, d);
+        lost += lost_in_deck(ship, which, d);
     }
     file.len() - lost
 }
 
 // The whole file, from the first byte on.
-fn put_file(file: &[u8], which: Stitches, out: &mut [u8])
-    requires { FileReady which file.now out.old }
-    ensures { out.new ≡ splice out.old 0 (new_file which file.now) }
+fn put_file(ship: &Ship<'_>, which: Stitches, out: &mut [u8])
+    requires { FileReady which ship.now out.old }
+    ensures { out.new ≡ splice out.old 0 (new_file which ship.now) }
 {
-    copy_part(file, 0, HEADER_SIZE, 0, out);
-    put_table(file, which, out);
-    put_decks(file, which, out)
+    copy_part(ship.bytes(), 0, HEADER_SIZE, 0, out);
+    put_table(ship, which, out);
+    put_decks(ship, which, out)
 }
 
 // The new file, where the old one passes and the output has room for it.
 fn remove(file: &[u8], which: Stitches, out: &mut [u8]) -> Answer
     ensures { RemovalReplied which file.now out.old out.new result }
 {
-    ship::first_no(file)?;
-    let size = new_size(file, which);
+    let ship = Ship::open(file)?;
+    let size = new_size(&ship, which);
     if out.len() < size {
         return Err(Refusal::NoRoom);
     }
-    put_file(file, which, out);
+    put_file(&ship, which, out);
     Ok(size)
 }
 

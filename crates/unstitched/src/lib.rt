@@ -17,49 +17,70 @@ pub enum Stitches {
     ToLayer(u8),
 }
 
-// Whether deck d's entries become plain numbers.
-fn plain_in(which: Stitches, d: usize) -> bool
-    ensures { result ≡ plain_in which d }
-{
-    match which {
-        Stitches::All => true,
-        Stitches::ToLayer(t) => d == t as usize,
+// The rule by which a deck's lists are written anew: which stitches go, and whose lists these are.
+#[derive(Clone, Copy)]
+pub struct Rule {
+    pub which: Stitches,
+    pub deck: usize,
+}
+
+impl Rule {
+    // Whether the deck's entries become plain numbers.
+    fn plain_in(self) -> bool
+        ensures { result ≡ plain_in self.which self.deck }
+    {
+        match self.which {
+            Stitches::All => true,
+            Stitches::ToLayer(t) => self.deck == t as usize,
+        }
+    }
+
+    // Whether an entry stays in a list of the deck.
+    #[tactic(auto, unfolding(crate::specs::Removal::keeps))]
+    pub fn keeps(self, entry: u32) -> bool
+        ensures { result ≡ keeps self.which self.deck entry }
+    {
+        if entry == ALL_ONES {
+            return true;
+        }
+        let deck = decks::packed_deck(entry);
+        match self.which {
+            Stitches::All => deck == self.deck,
+            Stitches::ToLayer(t) if self.deck == t as usize => deck == self.deck,
+            Stitches::ToLayer(t) => deck != t as usize,
+        }
+    }
+
+    // What is written for an entry that stays.
+    #[tactic(auto, unfolding(crate::specs::Removal::written_as))]
+    pub fn written_as(self, kept: u32) -> u32
+        ensures { result ≡ written_as self.which self.deck kept }
+    {
+        if kept == ALL_ONES || !self.plain_in() {
+            return kept;
+        }
+        decks::packed_polygon(kept) as u32
     }
 }
 
-// Whether an entry stays in a list of deck d.
-#[tactic(auto, unfolding(crate::specs::Removal::keeps))]
-pub fn keeps(which: Stitches, d: usize, entry: u32) -> bool
-    ensures { result ≡ keeps which d entry }
-{
-    if entry == ALL_ONES {
-        return true;
-    }
-    let deck = decks::packed_deck(entry);
-    match which {
-        Stitches::All => deck == d,
-        Stitches::ToLayer(t) if d == t as usize => deck == d,
-        Stitches::ToLayer(t) => deck != t as usize,
-    }
+// A deck of the old file, and the rule for its lists.
+#[derive(Clone, Copy)]
+pub struct OldDeck<'a> {
+    pub file: &'a [u8],
+    pub rule: Rule,
+    pub blocks: Blocks,
 }
 
-// What is written for an entry that stays.
-#[tactic(auto, unfolding(crate::specs::Removal::written_as))]
-pub fn written_as(which: Stitches, d: usize, kept: u32) -> u32
-    ensures { result ≡ written_as which d kept }
-{
-    if kept == ALL_ONES || !plain_in(which, d) {
-        return kept;
+impl<'a> OldDeck<'a> {
+    // How many of the n entries of N from number `first` on stay.
+    pub fn kept_in(&self, first: usize, n: usize) -> usize
+        requires { self.now.blocks.n + number_size * (first + n) ≤ length self.now.file.now }
+        ensures { (result ≡ length (kept_from self.now.rule.which self.now.file.now self.now.rule.deck self.now.blocks first n))
+            × (result ≤ n) }
+    {
+        let (file, rule, begin) = (self.file, self.rule, self.blocks.n);
+        (first..first + n)
+            .filter(|i| rule.keeps(words::u32_at(file, begin + NUMBER_SIZE * *i)))
+            .count()
     }
-    decks::packed_polygon(kept) as u32
-}
-
-// How many of the n entries of N from number `first` on stay.
-pub fn kept_in(file: &[u8], which: Stitches, d: usize, b: Blocks, first: usize, n: usize) -> usize
-    requires { b.n + number_size * (first + n) ≤ length file.now }
-    ensures { (result ≡ length (kept_from which file.now d b first n)) × (result ≤ n) }
-{
-    (first..first + n)
-        .filter(|i| keeps(which, d, words::u32_at(file, b.n + NUMBER_SIZE * *i)))
-        .count()
 }

@@ -3,4 +3,4 @@ use Rattle.removal.proofs.Losses.{Shrunk}
 use Rattle.removal.proofs.new_size.Given as goal
 
 abbrev pub invariant-decks : goal.invariant-decks
-invariant-decks l = Shrunk l.which l.file l.lost l.d
+invariant-decks l = Shrunk l.which l.ship l.lost l.d

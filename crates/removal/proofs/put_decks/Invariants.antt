@@ -3,4 +3,4 @@ use Rattle.removal.proofs.Decks.{DecksPut}
 use Rattle.removal.proofs.put_decks.Given as goal
 
 abbrev pub invariant-decks : goal.invariant-decks
-invariant-decks l = DecksPut l.which l.file l.initial.out l.out l.at l.d
+invariant-decks l = DecksPut l.which l.ship l.initial.out l.out l.at l.d

@@ -3,4 +3,4 @@ use Rattle.removal.proofs.NeighbourLoop.{NeighboursPut}
 use Rattle.removal.proofs.put_neighbours.Given as goal
 
 abbrev pub invariant-entries : goal.invariant-entries
-invariant-entries l = NeighboursPut l.which l.file l.d l.b l.initial.out l.at l.out l.next l.i
+invariant-entries l = NeighboursPut l.old.rule.which l.old.file.now l.old.rule.deck l.old.blocks l.initial.out l.at l.out l.next l.i

@@ -3,4 +3,4 @@ use Rattle.removal.proofs.Table.{TablePut}
 use Rattle.removal.proofs.put_table.Given as goal
 
 abbrev pub invariant-pairs : goal.invariant-pairs
-invariant-pairs l = TablePut l.which l.file l.initial.out l.out l.lost l.j
+invariant-pairs l = TablePut l.which l.ship l.initial.out l.out l.lost l.j

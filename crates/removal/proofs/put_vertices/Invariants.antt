@@ -3,4 +3,4 @@ use Rattle.removal.proofs.Vertices.{VerticesPut}
 use Rattle.removal.proofs.put_vertices.Given as goal
 
 abbrev pub invariant-vertices : goal.invariant-vertices
-invariant-vertices l = VerticesPut l.which l.file l.d l.b l.initial.out l.initial.next l.out l.next l.start l.i
+invariant-vertices l = VerticesPut l.old.rule.which l.old.file.now l.old.rule.deck l.old.blocks l.initial.out l.initial.next l.out l.next l.start l.i

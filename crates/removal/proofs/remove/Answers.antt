@@ -1,15 +1,17 @@
 -- `remove` meets its contract.
-use borrow.Author.Rules.{rules}
-use Rattle.removal.proofs.Replies.{removing}
 use Rattle.answers.proofs.Asking.{handed_on}
-use Rattle.answers.proofs.Replying.{replied_refused}
+use Rattle.removal.proofs.Replies.{removal_refused, removal_short, file_ready, removal_written}
 use Rattle.removal.proofs.remove.Goals as goal
 
-pub returns-in_err-first_no : goal.returns-in_err-first_no
-returns-in_err-first_no c = rw (handed_on c.from_residual.ensures.1) (replied_refused c.first_no.ensures c.in_err-first_no.was)
+pub returns-in_err-ship : goal.returns-in_err-ship
+returns-in_err-ship c = rw (handed_on c.from_residual.ensures.1) (removal_refused _ _ c.open.ensures _ c.in_err-ship.was)
 
 pub returns-then-out-size : goal.returns-then-out-size
-returns-then-out-size c = search (c.in_ok-first_no.was, removing, rules)
+returns-then-out-size c = removal_short _ _ c.open.ensures c.in_ok-ship.was _ c.new_size-size.ensures c.if-out-size.true
+
+pub put_file-requires : goal.put_file-requires
+put_file-requires c = file_ready _ _ c.open.ensures c.in_ok-ship.was _ c.new_size-size.ensures c.if-out-size.false
 
 pub returns : goal.returns
-returns c = search (c.in_ok-first_no.was, removing, rules)
+returns c =
+    removal_written _ _ c.open.ensures c.in_ok-ship.was _ c.new_size-size.ensures c.if-out-size.false c.put_file.ensures
