@@ -20,7 +20,7 @@ use Rattle.answers.proofs.Replying.{replied_refused, replied_short, replied_writ
 use Rattle.std.specs.Prelude.{Ok, Err}
 use Rattle.answers.specs.declared.Refusal.{Refusal}
 use Rattle.decks.specs.Opened.{opened}
-use Rattle.decks.proofs.Opening.{opens_err, opens_ok, chain_opened}
+use Rattle.decks.proofs.Opening.{opens_err, opens_ok}
 use Rattle.answers.specs.declared.Refusal.TheVariants.{CallFloatOutOfRange, NoSuchDeck, NoSuchPolygon}
 use Rattle.ship.specs.Layout.{decks_in}
 use Rattle.ship.specs.Decode.{decode}
@@ -44,7 +44,7 @@ module _ (file : List ℕ) (p : Vec2) (polygon : ℕ) where
   module _ (passed : first_no file ≡ Ok tt) where
     height_is_then : height_check file p polygon ≡ height_then file p polygon
     unfolding height_check
-    height_is_then = chain_opened (first_no file) (height_then file p polygon) passed
+    height_is_then = rw passed
 
     pub height_no : {q : Refusal} → Err q ≡ height_then file p polygon → Err q ≡ opened (height_check file p polygon) file
     height_no e = opens_err _ file (height_is_then ∙ sym e)

@@ -4,7 +4,7 @@ use mathlib.Core.List.{List}
 use Prim.Native.Nat.{ℕ}
 use Rattle.std.specs.Prelude.{Result, Ok, Err}
 use Rattle.answers.specs.declared.Refusal.{Refusal}
-use Rattle.answers.specs.Checks.{Check, after}
+use Rattle.answers.specs.Checks.{Check}
 use Rattle.decks.specs.Opened.{opened}
 
 -- ---- what a caller learns
@@ -27,25 +27,14 @@ module _ (c : Check) (s : List ℕ) {r : Result (List ℕ) Refusal} (asked : r �
   pub open_same : {t : List ℕ} → r ≡ Ok t → t ≡ s
   open_same e = (opened_ok c s (sym asked ∙ e)).1
 
+  pub was_opened : {t : List ℕ} → r ≡ Ok t → (c ≡ Ok tt) × (t ≡ s)
+  was_opened e = (open_yes e, open_same e)
+
 -- ---- what the check itself owes
 pub opens_err : (c : Check) (s : List ℕ) {q : Refusal} → c ≡ Err q → Err q ≡ opened c s
 opens_err c s e = rw e
 
 pub opens_ok : (c : Check) (s : List ℕ) {t : List ℕ} → c ≡ Ok tt → t ≡ s → Ok t ≡ opened c s
 opens_ok c s e f = rw (e, f)
-
--- ---- the same of what a call returned
-pub was_refused : (c : Check) (s : List ℕ) {r : Result (List ℕ) Refusal} {q : Refusal} → r ≡ opened c s → r ≡ Err q → c ≡ Err q
-was_refused c s asked e = opened_err c s (sym asked ∙ e)
-
-pub was_opened : (c : Check) (s : List ℕ) {r : Result (List ℕ) Refusal} {t : List ℕ} → r ≡ opened c s → r ≡ Ok t → (c ≡ Ok tt) × (t ≡ s)
-was_opened c s asked e = opened_ok c s (sym asked ∙ e)
-
--- ---- in a chain of questions that begins with those of the file
-pub chain_refused : (c later : Check) (s : List ℕ) {q : Refusal} {v : Result (List ℕ) Refusal} → v ≡ Err q → c ≡ Err q → v ≡ opened (after c later) s
-chain_refused c later s e f = e ∙ rw f
-
-pub chain_opened : (c later : Check) → c ≡ Ok tt → after c later ≡ later
-chain_opened c later f = rw f
 
 pub ruleset opening = (opened_err, opened_ok, open_no, open_yes, open_same, opens_err, opens_ok)

@@ -4,14 +4,14 @@ use mathlib.Core.Bool.{not}
 use borrow.Author.Rules.{rules}
 use Rattle.answers.proofs.Asking.{handed_on}
 use Rattle.answers.proofs.Replying.{replied_refused}
-use Rattle.decks.proofs.Opening.{was_refused, was_opened}
+use Rattle.decks.proofs.Opening.{open_no, was_opened}
 use Rattle.calls.proofs.Queries.{query_ready, lists_ready}
 use Rattle.calls.proofs.ClosestCalls.{point_none, point_room, point_refused, point_replied}
 use Rattle.calls.proofs.get_closest_point_on_layers.Goals as goal
 
 pub returns-in_err-ship : goal.returns-in_err-ship
 returns-in_err-ship c =
-    search (replied_refused, was_refused _ _ c.query_check.ensures c.in_err-ship.was, handed_on c.from_residual.ensures.1, rules)
+    search (replied_refused, open_no _ _ c.query_check.ensures c.in_err-ship.was, handed_on c.from_residual.ensures.1, rules)
 
 pub sift_decks-requires : goal.sift_decks-requires
 sift_decks-requires c =

@@ -2,12 +2,12 @@
 use borrow.Author.Rules.{rules}
 use Rattle.calls.proofs.HeightCalls.{height_replies}
 use Rattle.answers.proofs.Asking.{handed_on}
-use Rattle.decks.proofs.Opening.{was_refused, was_opened}
+use Rattle.decks.proofs.Opening.{open_no, was_opened}
 use Rattle.calls.proofs.height.Goals as goal
 
 pub returns-in_err-ship : goal.returns-in_err-ship
 returns-in_err-ship c =
-    search (was_refused _ _ c.height_check.ensures c.in_err-ship.was, handed_on c.from_residual.ensures.1, height_replies, rules)
+    search (open_no _ _ c.height_check.ensures c.in_err-ship.was, handed_on c.from_residual.ensures.1, height_replies, rules)
 
 pub height_asked-requires : goal.height_asked-requires
 height_asked-requires c =

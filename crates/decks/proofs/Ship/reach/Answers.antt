@@ -9,4 +9,4 @@ pub f32_at-requires : goal.f32_at-requires
 f32_at-requires c = (omega (arith, header_there _ c.self.invariant), search (c.self.invariant, readers, rules))
 
 pub returns : goal.returns
-returns c = rw (← c.self.view_is) (search (c.self.invariant, readers, rules))
+returns c = rw (← c.self.view_is) (search (readers, rules))
