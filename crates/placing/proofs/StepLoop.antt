@@ -17,7 +17,6 @@ use Rattle.survey.specs.Record.{record_at_place}
 use Rattle.survey.specs.Search.{candidates, tried_in, tried_before, best_of, first_step, seat_record}
 use Rattle.survey.proofs.Loops.{first_step_yes, first_step_no, first_step_none}
 use Rattle.walking.specs.Sees.{seen_by, CandidateWithin}
-use Rattle.walking.proofs.Walks.{walk_passed}
 use Rattle.std.specs.Prelude.{Some, None}
 use Rattle.placing.specs.declared.Choice.{Choice}
 use Rattle.placing.specs.declared.Tally.{Tally}
@@ -109,4 +108,4 @@ module _ {file blocked : List ℕ} {seat : Seat} {tried s n : ℕ} (h : Searchin
             let same : choice ≡ shown_choice v (best_of v first rest) = cc in
             made ∙ rw (h.same, first_step_yes v s (decode file).steps first rest (omega arith) e, same, tried_next, count_next, e)
 
-pub ruleset searching = (walk_passed, step_in, searching_all, best_placed, counts_within, searching_few, searching_none, searching_more, searching_found)
+pub ruleset searching = (step_in, searching_all, best_placed, counts_within, searching_few, searching_none, searching_more, searching_found)

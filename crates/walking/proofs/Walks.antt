@@ -25,7 +25,7 @@ use Rattle.survey.proofs.Loops.{passing_missed, passing_at, hit_polygon, hit_sam
 use Rattle.walking.specs.declared.Next.{Next}
 use Rattle.walking.specs.declared.Next.TheVariants.{Reached, Ended}
 use Rattle.walking.specs.Sees.{shown_by, seen_by, FileReady, CandidateIn}
-use Rattle.walking.specs.Lists.{WalkReady, TurnReady}
+use Rattle.walking.specs.Lists.{WalkReady}
 use Rattle.walking.specs.Walk.{passing_after, candidates_after, tried_after, Walked, WalkedFrom, WalkedStep, WalkedAfter}
 use Rattle.walking.proofs.ShownLaws.{polygons_shown, step_few}
 use Rattle.std.specs.Prelude.{Option, Some, None, Ok}
@@ -49,16 +49,6 @@ pub record Turning (file blocked : List ℕ) (seat : Seat) (s d tried e : ℕ) :
 
 pub turning_all : (file blocked : List ℕ) (seat : Seat) (s d : ℕ) → Turning file blocked seat s d 0 d
 turning_all file blocked seat s d = record { same = refl; tried_is = omega arith; few = omega arith }
-
-pub turn_ready : {file blocked : List ℕ} {table : List ℤ} {seat : Seat} {array : List ℕ} {n e s : ℕ} → WalkReady file blocked table seat array → n ≡ decks_in file → e < n
-    → s < steps_in file → TurnReady file table seat.place e s array
-turn_ready ready all l m =
-    record {
-      file_ready = walk_file ready;
-      place_within = ready.search_ready.place_within;
-      turn = record { deck = omega arith; step = m };
-      sifted = ready.sifted;
-    }
 
 -- the decks of the view are those of the file
 from_view : (file blocked : List ℕ) (seat : Seat) (s d : ℕ) (next : Next)
@@ -143,7 +133,7 @@ module _ {file blocked : List ℕ} {seat : Seat} {s d tried n e : ℕ} (h : Turn
                     };
               })
 
-pub ruleset turning = (turning_all, turn_ready, walk_blocked, walk_passed, turning_none, turning_shut, tries_small, tries_fit, turning_missed, turning_hit)
+pub ruleset turning = (turning_all, walk_blocked, walk_passed, turning_none, turning_shut, tries_small, tries_fit, turning_missed, turning_hit)
 
 -- ---- `first`
 pub from_first : (file blocked : List ℕ) (seat : Seat) (s : ℕ) {next : Next} → WalkedFrom file (seen_by file blocked seat) s 0 next → WalkedStep file (seen_by file blocked seat) s next
@@ -176,11 +166,6 @@ module _ (file blocked : List ℕ) (seat : Seat) (c : Candidate) {hit : Option H
         within = record { turn = on.turn; sample = on.sample; polygon = omega (arith, p.below, on.polygon) };
       }
 
-pub passing_ready : {file blocked : List ℕ} {table : List ℤ} {seat : Seat} {array : List ℕ} {c : Candidate} → WalkReady file blocked table seat array → CandidateIn file c
-    → TurnReady file table seat.place c.deck c.step array
-passing_ready ready on =
-    record { file_ready = walk_file ready; place_within = ready.search_ready.place_within; turn = on.turn; sifted = ready.sifted }
-
 pub next_step : {file : List ℕ} {c : Candidate} → CandidateIn file c → c.step < steps_in file
 next_step on = on.turn.step
 
@@ -190,4 +175,4 @@ next_deck on = omega (arith, on.turn.deck)
 pub deck_fits : {file : List ℕ} {c : Candidate} → first_no file ≡ Ok tt → CandidateIn file c → Fits w64 (c.deck + 1)
 deck_fits {file} passed on = record { fits = omega (arith, on.turn.deck, decks_few file passed) }
 
-pub ruleset afters = (walk_passed, passing_ready, after_missed, after_hit, next_step, next_deck, deck_fits)
+pub ruleset afters = (walk_passed, after_missed, after_hit, next_step, next_deck, deck_fits)
