@@ -4,7 +4,6 @@
 ghost use Rattle.std.specs.Prelude.{◌≡◌, true, ◌+◌, ◌≤◌, ◌<◌, length};
 ghost use Rattle.words.specs.Bytes.{u32_at, Put};
 ghost use Rattle.lines.specs.Text.{decimal, hex};
-ghost use Rattle.lines.specs.Text.{glyph as Text·glyph};
 ghost use Rattle.lines.specs.Lines.{field, height_field, placed_fields, none_fields, seat_line, end_line, refused_line};
 ghost use Rattle.lines.specs.Groups.{polygon_fields, point_fields, count_fields, seat_fields};
 ghost use Rattle.lines.specs.Input.{question21};
@@ -46,28 +45,15 @@ fn put_decimal(text: &mut [u8], at: usize, n: u32) -> usize
     put_bytes(text, at, &digits[..count])
 }
 
-fn glyph(digit: u32) -> u8
-    requires { digit < 16 }
-    ensures { result ≡ Text·glyph digit }
-{
-    if digit < 10 {
-        b'0' + digit as u8
-    } else {
-        b'A' + (digit - 10) as u8
-    }
-}
-
-// n in eight hexadecimal digits.
+// n in eight hexadecimal digits, capitals.
 fn put_hex(text: &mut [u8], at: usize, n: u32) -> usize
     requires { at + 8 ≤ length text.old }
     ensures { Put text.old at (hex n) text.new result × (result ≡ at + 8) }
 {
-    let mut left = n;
-    'digits: for i in (0..8).rev() {
-        text[at + i] = glyph(left % 16);
-        left /= 16;
-    }
-    at + 8
+    let mut digits = [0u8; 16];
+    let count = io::hex(n as u64, 8, &mut digits);
+    digits.make_ascii_uppercase();
+    put_bytes(text, at, &digits[..count])
 }
 
 // A space, and n in decimal.

@@ -1,12 +1,10 @@
+-- `put_hex` meets its contract.
 use borrow.Author.Rules.{rules}
-use Rattle.lines.proofs.Digits.{backward}
+use Rattle.lines.proofs.Digits.{hexes}
 use Rattle.lines.proofs.put_hex.Goals as goal
 
-pub digits-init : goal.digits-init
-digits-init c = search (backward, rules)
-
-pub digits-preserved : goal.digits-preserved
-digits-preserved c = search (backward, rules)
+pub put_bytes-requires : goal.put_bytes-requires
+put_bytes-requires c = search (hexes, rules)
 
 pub returns : goal.returns
-returns c = search (backward, rules)
+returns c = search (hexes, rules)
