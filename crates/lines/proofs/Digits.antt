@@ -6,13 +6,12 @@ use mathlib.Core.Path.{◌≡◌, refl, sym, ap, ◌∙◌}
 use mathlib.Core.Bool.{Bool, true, false}
 use mathlib.Core.List.{List, [], ◌∷◌, ◌++◌, append_assoc, append-nil, map, map-append}
 use lib.Dec.{ltb}
-use lib.ListN.{length, take}
+use lib.ListN.{length, take, length-take}
 use borrow.Author.Tests.{ltb-true, ltb-false, lt-ltb, le-ltb}
 use Rattle.std.specs.Char.{to_ascii_uppercase}
 use Rattle.std.proofs.lemmas.List.{take-map}
 use Rattle.std.proofs.lemmas.Bool.Decides.{nat_tests}
 use Rattle.io.specs.Digits.{hex_digit_ascii, last_digits, IsDigitCount}
-use Rattle.words.specs.Bytes.{Put}
 use Rattle.lines.specs.Text.{decimal_from, decimal, glyph, hex_from, hex}
 
 by_test : {P : Type 0} (b : Bool) (n m : ℕ) → ltb n m ≡ b → (n < m → P) → (m ≤ n → P) → P
@@ -55,24 +54,18 @@ module _ {n k : ℕ} (small : n < 2 ^ 32) (f : IsDigitCount 16 8 n k) where
       (λ l. absurd (omega (arith, f.2 l, pow-le-pow_right {n = 16} (omega arith) {i = 8} {j = k - 1} (omega arith))))
       (λ l. omega (arith, f.0))
 
-  hex_seen : (low : List ℕ) → take k low ≡ last_digits 16 k n → take k (map to_ascii_uppercase low) ≡ hex n
-  hex_seen low w = take-map to_ascii_uppercase k low ∙ ap (map to_ascii_uppercase) w ∙ ap (λ (j : ℕ). map to_ascii_uppercase (last_digits 16 j n)) eight ∙ hex_is n
+  pub hex_seen : (out low : List ℕ) → take k low ≡ last_digits 16 k n → out ≡ map to_ascii_uppercase low → take k out ≡ hex n
+  hex_seen out low w m =
+      ap (take k) m
+      ∙ take-map to_ascii_uppercase k low
+      ∙ ap (map to_ascii_uppercase) w
+      ∙ ap (λ (j : ℕ). map to_ascii_uppercase (last_digits 16 j n)) eight
+      ∙ hex_is n
 
-  module _ (out low : List ℕ) (w : take k low ≡ last_digits 16 k n) (m : out ≡ map to_ascii_uppercase low) where
-    digits_are : take k out ≡ hex n
-    digits_are = ap (take k) m ∙ hex_seen low w
+  pub hex_few : (out low : List ℕ) → take k low ≡ last_digits 16 k n → out ≡ map to_ascii_uppercase low → length (take k out) ≡ 8
+  hex_few out low w m = ap length (hex_seen out low w m) ∙ hex_long n
 
-    pub hex_room : (at : ℕ) {room : ℕ} → at + 8 ≤ room → at + length (take k out) ≤ room
-    hex_room at h = rw digits_are (omega (arith, hex_long n))
-
-    module _ {s t : List ℕ} {at r : ℕ} (p : Put s at (take k out) t r) where
-      pub hex_put : Put s at (hex n) t r
-      hex_put = rw digits_are at p
-
-      pub hex_next : r ≡ at + 8
-      hex_next = omega (arith, hex_put.next_is, hex_long n)
-
-pub ruleset hexes = (hex_room, hex_put, hex_next)
+pub ruleset hexes = (hex_seen, hex_few)
 
 -- ---- decimal
 -- the fewest digits that hold a number are those of the definition
@@ -103,15 +96,10 @@ module _ {n k : ℕ} (small : n < 2 ^ 32) (f : IsDigitCount 10 1 n k) where
   unfolding decimal
   decimal_is = let l = at_most_ten in sym (from_fewest k 20 n [] (omega arith) f ∙ append-nil (last_digits 10 k n))
 
-  module _ (out : List ℕ) (w : take k out ≡ last_digits 10 k n) (e : k ≡ length (take k out)) where
-    pub decimal_room : (at : ℕ) {room : ℕ} → at + 10 ≤ room → at + length (take k out) ≤ room
-    decimal_room at h = let l = at_most_ten in omega arith
+  pub decimal_seen : (out : List ℕ) → take k out ≡ last_digits 10 k n → take k out ≡ decimal n
+  decimal_seen out w = w ∙ decimal_is
 
-    module _ {s t : List ℕ} {at r : ℕ} (p : Put s at (take k out) t r) where
-      pub decimal_put : Put s at (decimal n) t r
-      decimal_put = rw (w ∙ decimal_is) at p
+  pub decimal_few : (out : List ℕ) → take k out ≡ last_digits 10 k n → length (take k out) ≤ 10
+  decimal_few out w = let l = at_most_ten in omega (arith, length-take k out)
 
-      pub decimal_next : r ≤ at + 10
-      decimal_next = let l = at_most_ten in omega (arith, p.next_is)
-
-pub ruleset decimals = (decimal_room, decimal_put, decimal_next)
+pub ruleset decimals = (decimal_seen, decimal_few)
