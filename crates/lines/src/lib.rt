@@ -177,7 +177,8 @@ fn add_fields(line: &mut Line, r: SeatRecord)
 // The line, and its end.
 fn put_line(text: &mut [u8], at: usize, line: &mut Line) -> usize
     requires { (at + 128 ≤ length text.old) × (array_vec_len line.old + 1 ≤ 128) }
-    ensures { Put text.old at (line.old.items ++ 10 ∷ []) text.new result × (result ≤ at + 128) }
+    ensures put { Put text.old at (line.old.items ++ 10 ∷ []) text.new result }
+    ensures upper_bound { result ≤ at + 128 }
 {
     line.push(b'\n');
     put_bytes(text, at, line.as_slice())
