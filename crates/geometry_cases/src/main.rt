@@ -89,13 +89,6 @@ fn point(words: &[Word; 8], k: usize) -> Vec2
     }
 }
 
-// 1 for a yes.
-impl From<bool> for Value {
-    fn from(b: bool) -> Value {
-        Value::Number(u32::from(b))
-    }
-}
-
 fn sample(t: &[i32; 2432], p: Vec2, reach: f32, step: u32, number: u32) -> Option<Value>
     requires { t.now ≡ directions }
 {
@@ -136,15 +129,15 @@ fn square_root(bits: u32) -> Option<Value> {
     Some(Value::Float(root::sqrt(f32::from_bits(bits))))
 }
 
-// The functions of an edge and a point. A side and a test are numbered as their variants are declared.
+// The functions of an edge and a point. A side and a test are numbered as their variants are declared, and a yes is 1.
 fn at_edge(letter: u8, words: &[Word; 8]) -> Option<Value> {
     let p = point(words, 0);
     let a = point(words, 2);
     let b = point(words, 4);
     match letter {
         b'E' => Some(Value::Number(geometry::side(p, a, b) as u32)),
-        b'B' => Some(geometry::in_bounding_box(p, a, b).into()),
-        b'G' => Some(geometry::on_segment(p, a, b).into()),
+        b'B' => Some(Value::Number(u32::from(geometry::in_bounding_box(p, a, b)))),
+        b'G' => Some(Value::Number(u32::from(geometry::on_segment(p, a, b)))),
         b'T' => Some(Value::Number(geometry::edge_test(p, a, b) as u32)),
         b'H' => Some(Value::Height(geometry::height_along(p, a, b, words[6].real, words[7].real))),
         _ => None,
