@@ -59,10 +59,9 @@ pub fn box_test(bounds: BoundingBox, a: Vec2, b: Vec2) -> BoxTest
     if largest_cross(bounds, a, b) <= -1e-4 {
         return BoxTest::Never;
     }
-    if is_apart(bounds.low.x, bounds.high.x, a.x, b.x) {
-        return BoxTest::Next;
-    }
-    if is_apart(bounds.low.y, bounds.high.y, a.y, b.y) {
+    if is_apart(bounds.low.x, bounds.high.x, a.x, b.x)
+        || is_apart(bounds.low.y, bounds.high.y, a.y, b.y)
+    {
         return BoxTest::Next;
     }
     BoxTest::Maybe

@@ -23,7 +23,7 @@ pub struct Room<const N: usize> {
 
 // The float of a bit pattern, if it is one. No float can be made of a NaN's pattern.
 #[tactic(auto, using(std::proofs::lemmas::Float::not_nan_f32_bits))]
-fn float_of(bits: u32) -> Option<f32> {
+pub fn float_of(bits: u32) -> Option<f32> {
     if bits % 0x8000_0000 > 0x7F80_0000 {
         return None;
     }

@@ -11,7 +11,7 @@ ghost use Rattle.std.specs.Prelude.{◌^◌, ◌<◌};
 mod input;
 
 use answers::Answer;
-pub use input::{Case, Input, Room, print_answers, replay};
+pub use input::{Case, Input, Room, float_of, print_answers, replay};
 use std::io::{self, Write};
 
 // What every byte of lent memory is before a call.
@@ -81,6 +81,22 @@ fn print_work<W: Write>(out: &mut W, answer: Answer, work: &[u8]) -> io::Result<
     }
 }
 
+// The answer of a call that counts parts of `size` bytes, with a line for every `width` of them.
+fn print_parts<W: Write>(
+    out: &mut W,
+    answer: Answer,
+    size: usize,
+    width: usize,
+    lent: &[u8],
+) -> io::Result<()>
+    requires { 0 < width }
+{
+    let (written, left) = parts(answer, size, lent);
+    print_head(out, answer, left)?;
+    out.write_all(b"\n")?;
+    print_entries(out, written, width)
+}
+
 // The answer of a call that counts entries of `width` bytes.
 pub fn print_answer<W: Write>(
     out: &mut W,
@@ -90,10 +106,7 @@ pub fn print_answer<W: Write>(
 ) -> io::Result<()>
     requires { 0 < width }
 {
-    let (written, left) = parts(answer, width, lent);
-    print_head(out, answer, left)?;
-    out.write_all(b"\n")?;
-    print_entries(out, written, width)
+    print_parts(out, answer, width, width, lent)
 }
 
 // Makes a call that is lent `room` bytes, and prints its answer.
@@ -125,10 +138,7 @@ pub fn print_file_call<const N: usize, W: Write, F: FnOnce(&mut [u8]) -> Answer>
     let mut memory = [FILL; N];
     let lent = &mut memory[..room.size];
     let answer = call(lent);
-    let (written, left) = parts(answer, 1, lent);
-    print_head(out, answer, left)?;
-    out.write_all(b"\n")?;
-    print_entries(out, written, 4)
+    print_parts(out, answer, 1, 4, lent)
 }
 
 // The same of a call that is lent work too.

@@ -6,7 +6,7 @@
 ghost use Rattle.std.specs.Prelude.{IfSome, ◌≡◌, ◌+◌, ◌*◌, ◌<◌, ◌≤◌, length};
 ghost use Rattle.ring.specs.Table.{directions};
 
-use cases::print_word;
+use cases::{float_of, print_word};
 use geometry::{Height, HeightSum, Vec2};
 use std::io::{self, Write};
 
@@ -41,17 +41,15 @@ fn words_of(letter: u8) -> Option<usize>
     }
 }
 
-// The value of a capital hexadecimal digit.
+// The value of a hexadecimal digit. `to_digit` alone would take those in lower case too.
 fn digit(b: u8) -> Option<u32> {
     match b {
-        b'0'..=b'9' => Some(b as u32 - 48),
-        b'A'..=b'F' => Some(b as u32 - 55),
+        b'0'..=b'9' | b'A'..=b'F' => (b as char).to_digit(16),
         _ => None,
     }
 }
 
 // The word at `at`, if it is one: a space and 8 digits. A NaN's pattern is refused: no function takes it, as a float or as a whole number.
-#[tactic(auto, using(std::proofs::lemmas::Float::not_nan_f32_bits))]
 fn word_at(line: &[u8], at: usize) -> Option<Word>
     requires { at + 9 ≤ length line.now }
 {
@@ -62,12 +60,9 @@ fn word_at(line: &[u8], at: usize) -> Option<Word>
     for b in &line[at + 1..at + 9] {
         n = n << 4 | digit(*b)?;
     }
-    if n % 0x8000_0000 > 0x7F80_0000 {
-        return None;
-    }
     Some(Word {
         whole: n,
-        real: f32::from_bits(n),
+        real: float_of(n)?,
     })
 }
 
@@ -92,10 +87,6 @@ fn point(words: &[Word; 8], k: usize) -> Vec2
         x: words[k].real,
         y: words[k + 1].real,
     }
-}
-
-fn flag(b: bool) -> Value {
-    Value::Number(u32::from(b))
 }
 
 fn sample(t: &[i32; 2432], p: Vec2, reach: f32, step: u32, number: u32) -> Option<Value>
@@ -138,15 +129,15 @@ fn square_root(bits: u32) -> Option<Value> {
     Some(Value::Float(root::sqrt(f32::from_bits(bits))))
 }
 
-// The functions of an edge and a point. A side and a test are numbered as their variants are declared.
+// The functions of an edge and a point. A side and a test are numbered as their variants are declared, and a yes is 1.
 fn at_edge(letter: u8, words: &[Word; 8]) -> Option<Value> {
     let p = point(words, 0);
     let a = point(words, 2);
     let b = point(words, 4);
     match letter {
         b'E' => Some(Value::Number(geometry::side(p, a, b) as u32)),
-        b'B' => Some(flag(geometry::in_bounding_box(p, a, b))),
-        b'G' => Some(flag(geometry::on_segment(p, a, b))),
+        b'B' => Some(Value::Number(u32::from(geometry::in_bounding_box(p, a, b)))),
+        b'G' => Some(Value::Number(u32::from(geometry::on_segment(p, a, b)))),
         b'T' => Some(Value::Number(geometry::edge_test(p, a, b) as u32)),
         b'H' => Some(Value::Height(geometry::height_along(p, a, b, words[6].real, words[7].real))),
         _ => None,

@@ -1,6 +1,5 @@
 pub mod Digits
 pub mod Readback
-pub mod Parts
 pub mod Lengths
 pub mod Question21
 pub mod Examples

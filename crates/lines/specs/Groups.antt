@@ -1,4 +1,4 @@
--- The fields of a line in groups, each put by one function.
+-- The fields of a line in groups, each added by one function.
 use Rattle.std.specs.Prelude.{ℕ, ◌/◌, ◌%◌, ◌^◌, cond, List, ◌++◌}
 use Rattle.records.specs.declared.SeatRecord.{SeatRecord}
 use Rattle.records.specs.Record.{is_unplaced}

@@ -1,15 +1,20 @@
-// The lines of `seatlist` as bytes (document 01, section 7), and question 21. Text is put at a position, and the position after it is answered.
+// The lines of `seatlist` as bytes (document 01, section 7), and question 21. A line is made in room of its own and put at a position of
+// the text; the position after it is answered.
 #![tactic(auto)]
 
-ghost use Rattle.std.specs.Prelude.{◌≡◌, true, ◌+◌, ◌≤◌, ◌<◌, length};
+ghost use Rattle.std.specs.Prelude.{◌≡◌, true, ◌+◌, ◌≤◌, [], ◌∷◌, ◌++◌, length};
+ghost use Rattle.arrayvec.specs.ArrayVec.{array_vec_len};
 ghost use Rattle.words.specs.Bytes.{u32_at, Put};
 ghost use Rattle.lines.specs.Text.{decimal, hex};
-ghost use Rattle.lines.specs.Text.{glyph as Text·glyph};
 ghost use Rattle.lines.specs.Lines.{field, height_field, placed_fields, none_fields, seat_line, end_line, refused_line};
 ghost use Rattle.lines.specs.Groups.{polygon_fields, point_fields, count_fields, seat_fields};
 ghost use Rattle.lines.specs.Input.{question21};
 
+use arrayvec::ArrayVec;
 use records::SeatRecord;
+
+// A line while it is made; it never allocates. The longest has 121 bytes.
+type Line = ArrayVec<u8, 128>;
 
 // Question 21.
 #[tactic(auto, unfolding(crate::specs::Input::question21))]
@@ -36,156 +41,182 @@ pub fn put_bytes(text: &mut [u8], at: usize, bytes: &[u8]) -> usize
     at + bytes.len()
 }
 
-// n in decimal.
-fn put_decimal(text: &mut [u8], at: usize, n: u32) -> usize
-    requires { at + 10 ≤ length text.old }
-    ensures { Put text.old at (decimal n) text.new result × (result ≤ at + 10) }
+fn add(line: &mut Line, bytes: &[u8])
+    requires { array_vec_len line.old + length bytes.now ≤ 128 }
+    ensures text { line.new.items ≡ line.old.items ++ bytes.now }
+    ensures long { array_vec_len line.new ≡ array_vec_len line.old + length bytes.now }
+{
+    line.try_extend_from_slice(bytes).unwrap()
+}
+
+// n in decimal. By `io` and not by `write!`: std promises the bytes of what it formats only where it answers Ok, and nowhere that it does.
+#[tactic(auto, using(crate::proofs::Digits::decimals))]
+fn add_decimal(line: &mut Line, n: u32)
+    requires { array_vec_len line.old + 10 ≤ 128 }
+    ensures text { line.new.items ≡ line.old.items ++ decimal n }
+    ensures long { array_vec_len line.new ≤ array_vec_len line.old + 10 }
 {
     let mut digits = [0u8; 20];
     let count = io::decimal(n as u64, &mut digits);
-    put_bytes(text, at, &digits[..count])
+    add(line, &digits[..count])
 }
 
-fn glyph(digit: u32) -> u8
-    requires { digit < 16 }
-    ensures { result ≡ Text·glyph digit }
+// n in eight hexadecimal digits, capitals.
+#[tactic(auto, using(crate::proofs::Digits::hexes))]
+fn add_hex(line: &mut Line, n: u32)
+    requires { array_vec_len line.old + 8 ≤ 128 }
+    ensures text { line.new.items ≡ line.old.items ++ hex n }
+    ensures long { array_vec_len line.new ≤ array_vec_len line.old + 8 }
 {
-    if digit < 10 {
-        b'0' + digit as u8
-    } else {
-        b'A' + (digit - 10) as u8
-    }
-}
-
-// n in eight hexadecimal digits.
-fn put_hex(text: &mut [u8], at: usize, n: u32) -> usize
-    requires { at + 8 ≤ length text.old }
-    ensures { Put text.old at (hex n) text.new result × (result ≡ at + 8) }
-{
-    let mut left = n;
-    'digits: for i in (0..8).rev() {
-        text[at + i] = glyph(left % 16);
-        left /= 16;
-    }
-    at + 8
+    let mut digits = [0u8; 16];
+    let count = io::hex(n as u64, 8, &mut digits);
+    digits.make_ascii_uppercase();
+    add(line, &digits[..count])
 }
 
 // A space, and n in decimal.
-fn put_number(text: &mut [u8], at: usize, n: u32) -> usize
-    requires { at + 11 ≤ length text.old }
-    ensures { Put text.old at (field (decimal n)) text.new result × (result ≤ at + 11) }
+fn add_number(line: &mut Line, n: u32)
+    requires { array_vec_len line.old + 11 ≤ 128 }
+    ensures text { line.new.items ≡ line.old.items ++ field (decimal n) }
+    ensures long { array_vec_len line.new ≤ array_vec_len line.old + 11 }
 {
-    let next = put_bytes(text, at, b" ");
-    put_decimal(text, next, n)
+    line.push(b' ');
+    add_decimal(line, n)
 }
 
 // A space, and a float's bits.
-fn put_bits(text: &mut [u8], at: usize, n: u32) -> usize
-    requires { at + 9 ≤ length text.old }
-    ensures { Put text.old at (field (hex n)) text.new result × (result ≡ at + 9) }
+fn add_bits(line: &mut Line, n: u32)
+    requires { array_vec_len line.old + 9 ≤ 128 }
+    ensures text { line.new.items ≡ line.old.items ++ field (hex n) }
+    ensures long { array_vec_len line.new ≤ array_vec_len line.old + 9 }
 {
-    let next = put_bytes(text, at, b" ");
-    put_hex(text, next, n)
+    line.push(b' ');
+    add_hex(line, n)
 }
 
 // A space, and the height's bits or `-`.
-fn put_height(text: &mut [u8], at: usize, kind: u32, bits: u32) -> usize
-    requires { at + 9 ≤ length text.old }
-    ensures { Put text.old at (field (height_field kind bits)) text.new result × (result ≤ at + 9) }
+fn add_height(line: &mut Line, kind: u32, bits: u32)
+    requires { array_vec_len line.old + 9 ≤ 128 }
+    ensures text { line.new.items ≡ line.old.items ++ field (height_field kind bits) }
+    ensures long { array_vec_len line.new ≤ array_vec_len line.old + 9 }
 {
     if kind == 0 {
-        put_bytes(text, at, b" -")
+        add(line, b" -")
     } else {
-        put_bits(text, at, bits)
+        add_bits(line, bits)
     }
 }
 
 // The deck, and the polygon in its deck.
-fn put_polygon(text: &mut [u8], at: usize, polygon: u32) -> usize
-    requires { at + 22 ≤ length text.old }
-    ensures { Put text.old at (polygon_fields polygon) text.new result × (result ≤ at + 22) }
+fn add_polygon(line: &mut Line, polygon: u32)
+    requires { array_vec_len line.old + 22 ≤ 128 }
+    ensures text { line.new.items ≡ line.old.items ++ polygon_fields polygon }
+    ensures long { array_vec_len line.new ≤ array_vec_len line.old + 22 }
 {
-    let deck = put_number(text, at, polygon / 16777216);
-    put_number(text, deck, polygon % 16777216)
+    add_number(line, polygon / 16777216);
+    add_number(line, polygon % 16777216)
 }
 
 // x, y and the height.
-fn put_point(text: &mut [u8], at: usize, r: SeatRecord) -> usize
-    requires { at + 27 ≤ length text.old }
-    ensures { Put text.old at (point_fields r) text.new result × (result ≤ at + 27) }
+fn add_point(line: &mut Line, r: SeatRecord)
+    requires { array_vec_len line.old + 27 ≤ 128 }
+    ensures text { line.new.items ≡ line.old.items ++ point_fields r }
+    ensures long { array_vec_len line.new ≤ array_vec_len line.old + 27 }
 {
-    let x = put_bits(text, at, r.x);
-    let y = put_bits(text, x, r.y);
-    put_height(text, y, r.kind, r.height)
+    add_bits(line, r.x);
+    add_bits(line, r.y);
+    add_height(line, r.kind, r.height)
 }
 
 // Step, sample, tried and candidates.
-fn put_counts(text: &mut [u8], at: usize, r: SeatRecord) -> usize
-    requires { at + 44 ≤ length text.old }
-    ensures { Put text.old at (count_fields r) text.new result × (result ≤ at + 44) }
+fn add_counts(line: &mut Line, r: SeatRecord)
+    requires { array_vec_len line.old + 44 ≤ 128 }
+    ensures text { line.new.items ≡ line.old.items ++ count_fields r }
+    ensures long { array_vec_len line.new ≤ array_vec_len line.old + 44 }
 {
-    let step = put_number(text, at, r.step);
-    let sample = put_number(text, step, r.sample);
-    let tried = put_number(text, sample, r.tried);
-    put_number(text, tried, r.candidates)
+    add_number(line, r.step);
+    add_number(line, r.sample);
+    add_number(line, r.tried);
+    add_number(line, r.candidates)
 }
 
-fn put_placed(text: &mut [u8], at: usize, r: SeatRecord) -> usize
-    requires { at + 110 ≤ length text.old }
-    ensures { Put text.old at (placed_fields r) text.new result × (result ≤ at + 110) }
+#[tactic(auto, unfolding(crate::specs::Lines::placed_fields))]
+fn add_placed(line: &mut Line, r: SeatRecord)
+    requires { array_vec_len line.old + 110 ≤ 128 }
+    ensures text { line.new.items ≡ line.old.items ++ placed_fields r }
+    ensures long { array_vec_len line.new ≤ array_vec_len line.old + 110 }
 {
-    let word = put_bytes(text, at, b" placed");
-    let polygon = put_polygon(text, word, r.polygon);
-    let point = put_point(text, polygon, r);
-    put_counts(text, point, r)
+    add(line, b" placed");
+    add_polygon(line, r.polygon);
+    add_point(line, r);
+    add_counts(line, r)
 }
 
-fn put_none(text: &mut [u8], at: usize, r: SeatRecord) -> usize
-    requires { at + 110 ≤ length text.old }
-    ensures { Put text.old at (none_fields r) text.new result × (result ≤ at + 110) }
+#[tactic(auto, unfolding(crate::specs::Lines::none_fields))]
+fn add_none(line: &mut Line, r: SeatRecord)
+    requires { array_vec_len line.old + 110 ≤ 128 }
+    ensures text { line.new.items ≡ line.old.items ++ none_fields r }
+    ensures long { array_vec_len line.new ≤ array_vec_len line.old + 110 }
 {
-    let word = put_bytes(text, at, b" none");
-    put_number(text, word, r.tried)
+    add(line, b" none");
+    add_number(line, r.tried)
 }
 
-fn put_fields(text: &mut [u8], at: usize, r: SeatRecord) -> usize
-    requires { at + 110 ≤ length text.old }
-    ensures { Put text.old at (seat_fields r) text.new result × (result ≤ at + 110) }
+fn add_fields(line: &mut Line, r: SeatRecord)
+    requires { array_vec_len line.old + 110 ≤ 128 }
+    ensures text { line.new.items ≡ line.old.items ++ seat_fields r }
+    ensures long { array_vec_len line.new ≤ array_vec_len line.old + 110 }
 {
     if records::unplaced(r) {
-        put_none(text, at, r)
+        add_none(line, r)
     } else {
-        put_placed(text, at, r)
+        add_placed(line, r)
     }
 }
 
+// The line, and its end.
+fn put_line(text: &mut [u8], at: usize, line: &mut Line) -> usize
+    requires { (at + 128 ≤ length text.old) × (array_vec_len line.old + 1 ≤ 128) }
+    ensures put { Put text.old at (line.old.items ++ 10 ∷ []) text.new result }
+    ensures upper_bound { result ≤ at + 128 }
+{
+    line.push(b'\n');
+    put_bytes(text, at, line.as_slice())
+}
+
 // The line of seat i from its record.
+#[tactic(auto, unfolding(crate::specs::Lines::seat_line))]
 pub fn put_seat(text: &mut [u8], at: usize, i: u32, r: SeatRecord) -> usize
     requires { at + 128 ≤ length text.old }
     ensures { Put text.old at (seat_line i r) text.new result × (result ≤ at + 128) }
 {
-    let number = put_decimal(text, at, i);
-    let end = put_fields(text, number, r);
-    put_bytes(text, end, b"\n")
+    let mut line = Line::new();
+    add_decimal(&mut line, i);
+    add_fields(&mut line, r);
+    put_line(text, at, &mut line)
 }
 
 // The last line: how many seats are placed, and how many are not.
+#[tactic(auto, unfolding(crate::specs::Lines::end_line))]
 pub fn put_end(text: &mut [u8], at: usize, placed: u32, unplaced: u32) -> usize
     requires { at + 128 ≤ length text.old }
     ensures { Put text.old at (end_line placed unplaced) text.new result × (result ≤ at + 128) }
 {
-    let word = put_bytes(text, at, b"end");
-    let first = put_number(text, word, placed);
-    let second = put_number(text, first, unplaced);
-    put_bytes(text, second, b"\n")
+    let mut line = Line::new();
+    add(&mut line, b"end");
+    add_number(&mut line, placed);
+    add_number(&mut line, unplaced);
+    put_line(text, at, &mut line)
 }
 
 // The one line of a refusal.
+#[tactic(auto, unfolding(crate::specs::Lines::refused_line))]
 pub fn put_refused(text: &mut [u8], at: usize, number: u32) -> usize
     requires { at + 128 ≤ length text.old }
     ensures { Put text.old at (refused_line number) text.new result × (result ≤ at + 128) }
 {
-    let word = put_bytes(text, at, b"refused");
-    let end = put_number(text, word, number);
-    put_bytes(text, end, b"\n")
+    let mut line = Line::new();
+    add(&mut line, b"refused");
+    add_number(&mut line, number);
+    put_line(text, at, &mut line)
 }

@@ -6,7 +6,8 @@
 //   S find_stitch_points        R remove_stitches        T remove_stitches_to_layer    D get_closest_point_towards
 // The last takes no blocked set: x and y of the point to go towards stand in its place.
 // The answer's lines are those of the crate `cases`; a new file is printed a word a line. A location is one line: `found` and the
-// packed polygon in 8 hexadecimal digits, or `refused` and the number.
+// packed polygon in 8 hexadecimal digits, or `refused` and the number. What is no case gives the one word `bad`, and nothing after it is
+// read.
 #![tactic(auto)]
 
 use answers::Refusal;

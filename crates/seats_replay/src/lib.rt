@@ -6,7 +6,7 @@
 //   L, the run with a load sheet: the same, table length, work length, and how many bytes of the table the sheet takes
 //   P, the closest points, and Q, the closest point: file length, blocked length, x, y, deck, output length
 //   H, the height: file length, x, y, packed polygon, output length
-// The answer's lines are those of the crate `cases`.
+// The answer's lines are those of the crate `cases`. What is no case gives the one word `bad`, and nothing after it is read.
 #![tactic(auto)]
 
 ghost use Rattle.std.specs.Prelude.{◌≤◌, length};
@@ -142,10 +142,10 @@ impl<'a> Loads<'a> {
     fn run<W: Write>(self, out: &mut W) -> io::Result<()> {
         let mut memory = [FILL; MOST_LENT];
         let lent = &mut memory[..self.room.size];
-        let mut memory = [FILL; MOST_LENT];
-        let table = &mut memory[..self.table.size];
-        let mut memory = [FILL; MOST_LENT];
-        let work = &mut memory[..self.work.size];
+        let mut table_memory = [FILL; MOST_LENT];
+        let table = &mut table_memory[..self.table.size];
+        let mut work_memory = [FILL; MOST_LENT];
+        let work = &mut work_memory[..self.work.size];
         let answer = loads::run_loads(self.file, self.blocked, self.seats, lent, table, work);
         print_tabled(out, answer, 36, self.sheet, lent, table, work)
     }

@@ -1,5 +1,6 @@
 // Runs the cases of tools/ship_cases.py. The input is cases, one after the other: a length (u32, little-endian), then a ship file of
-// that many bytes. The answer is a line: `passed`, or `no` and the number of the first question that the file does not pass.
+// that many bytes. The answer is a line: `passed`, or `no` and the number of the first question that the file does not pass. What is no
+// case gives the one word `bad`, and nothing after it is read.
 #![tactic(auto)]
 
 use cases::{Case, Input};

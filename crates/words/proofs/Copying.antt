@@ -1,7 +1,7 @@
 -- Parts put one after another.
 use Prim.Native.Nat.{ℕ, ◌+◌, ◌≤◌}
 use native.Mathlib.Nat.{add_assoc}
-use mathlib.Core.Path.{◌≡◌, sym, ◌∙◌}
+use mathlib.Core.Path.{◌≡◌, ◌∙◌}
 use mathlib.Core.List.{List, ◌++◌}
 use lib.ListN.{length, length-append}
 use Rattle.words.specs.Bytes.{Put}
@@ -14,9 +14,6 @@ put_put {s} {t} {u} {at} {n} {m} {xs} {ys} p room q =
       out_is = q.out_is ∙ rw (p.out_is, p.next_is) (splice_splice s at xs fits ys);
       next_is = q.next_is ∙ rw p.next_is (simp (length-append, add_assoc));
     }
-
-pub put_same : {s t : List ℕ} {at n : ℕ} {xs ys : List ℕ} → xs ≡ ys → Put s at xs t n → Put s at ys t n
-put_same e p = rw (sym e) p
 
 pub put_long : {s t : List ℕ} {at n : ℕ} {xs : List ℕ} → Put s at xs t n → at + length xs ≤ length s → length t ≡ length s
 put_long {s} {at = at} {xs = xs} p room = rw p.out_is (length_splice s at xs room)

@@ -1,7 +1,0 @@
--- `put_none` meets its contract.
-use borrow.Author.Rules.{rules}
-use Rattle.lines.proofs.Parts.{places}
-use Rattle.lines.proofs.put_none.Goals as goal
-
-pub returns : goal.returns
-returns c = search (places, rules)

@@ -1,7 +1,0 @@
--- `put_seat` meets its contract.
-use borrow.Author.Rules.{rules}
-use Rattle.lines.proofs.Parts.{wholes}
-use Rattle.lines.proofs.put_seat.Goals as goal
-
-pub returns : goal.returns
-returns c = search (wholes, rules)
