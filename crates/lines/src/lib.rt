@@ -107,14 +107,17 @@ fn add_height(line: &mut Line, kind: u32, bits: u32)
     }
 }
 
+// Polygons of a deck in a packed number: deck · 2^24 + polygon.
+const PACKED_DECK: u32 = 1 << 24;
+
 // The deck, and the polygon in its deck.
 fn add_polygon(line: &mut Line, polygon: u32)
     requires { array_vec_len line.old + 22 ≤ 128 }
     ensures text { line.new.items ≡ line.old.items ++ polygon_fields polygon }
     ensures long { array_vec_len line.new ≤ array_vec_len line.old + 22 }
 {
-    add_number(line, polygon / 16777216);
-    add_number(line, polygon % 16777216)
+    add_number(line, polygon / PACKED_DECK);
+    add_number(line, polygon % PACKED_DECK)
 }
 
 // x, y and the height.

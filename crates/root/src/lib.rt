@@ -13,23 +13,29 @@ pub struct Parts {
     pub shift: u32,
 }
 
+// In a pattern the exponent's field stands above 23 binary digits.
+const FIELD: u32 = 1 << 23;
+
+// The least whole number of 24 binary digits.
+const LEAST: u64 = 1 << 23;
+
 // The number of a pattern, in units of 2 ^ -149 and times 2 ^ 24. A subnormal's digits are moved up until there are 24.
 #[tactic(auto, using(crate::proofs::Loops::moving))]
 fn split(bits: u32) -> Parts
     requires { Pattern bits }
     ensures { Shifted bits result.digits result.shift }
 {
-    let field = bits / 8388608;
+    let field = bits / FIELD;
     if field > 0 {
         return Parts {
-            digits: (8388608 + bits % 8388608) as u64,
+            digits: (FIELD + bits % FIELD) as u64,
             shift: field + 23,
         };
     }
     let mut digits = bits as u64;
     let mut shift: u32 = 24;
     // A while: the digits say when it ends.
-    'up: while digits < 8388608 {
+    'up: while digits < LEAST {
         digits *= 2;
         shift -= 1;
     }
@@ -42,9 +48,9 @@ fn radicand(digits: u64, shift: u32) -> u64
     ensures { (result ≡ digits * 2 ^ (23 + shift % 2)) × Between result }
 {
     if shift % 2 == 0 {
-        digits * 8388608
+        digits * LEAST
     } else {
-        digits * 16777216
+        digits * (2 * LEAST)
     }
 }
 
@@ -53,8 +59,8 @@ fn whole_root(n: u64) -> u64
     requires { Between n }
     ensures { WholeRoot n result }
 {
-    let mut low: u64 = 8388608;
-    let mut high: u64 = 16777216;
+    let mut low = LEAST;
+    let mut high = 2 * LEAST;
     // A while: an end moves.
     'halves: while high - low > 1 {
         let middle = (low + high) / 2;
@@ -75,7 +81,7 @@ fn root_pattern(bits: u32) -> u32
     let p = split(bits);
     let n = radicand(p.digits, p.shift);
     let q = whole_root(n);
-    let r = (p.shift / 2 + 51) * 8388608 + q as u32;
+    let r = (p.shift / 2 + 51) * FIELD + q as u32;
     if n - q * q > q {
         return r + 1;
     }
