@@ -1,13 +1,12 @@
--- The questions of `candidate_polygons`, and that a blocked deck that is named gives nothing.
+-- What the questions of `candidate_polygons` say of a query, and that a blocked deck that is named gives nothing.
 use Prim.Native.Nat.{ℕ}
-use mathlib.Core.Path.{◌≡◌, refl, sym, ◌∙◌}
+use mathlib.Core.Path.{◌≡◌, refl}
 use mathlib.Core.Bool.{Bool, true, false, cond}
 use mathlib.Core.List.{List, []}
 use Rattle.geometry.specs.declared.Vec2.{Vec2}
 use Rattle.words.specs.Bytes.{all_ones}
-use Rattle.answers.specs.Checks.{ask, after, Check}
 use Rattle.answers.specs.Questions.{question14, question17}
-use Rattle.answers.proofs.Asking.{asking, asked_yes, both_passed}
+use Rattle.answers.proofs.Asking.{asked_yes, both_passed}
 use Rattle.std.specs.Prelude.{Ok}
 use Rattle.answers.specs.declared.Refusal.TheVariants.{WrongLength, CallFloatOutOfRange}
 use Rattle.ship.specs.Layout.{decks_in}
@@ -17,28 +16,15 @@ use Rattle.calls.specs.Closest.{question16, query_check}
 use Rattle.calls.proofs.ClosestCalls.{blocked_finds_none}
 use Rattle.candidates.specs.Candidates.{candidate_check, found_polygons}
 
--- ---- `candidate_check`
-pub check_is : (file : List ℕ) (p : Vec2) (blocked : List ℕ) {v : Check}
-    → v ≡ after (first_no file) (ask (question14 blocked) WrongLength (ask (question16 p) CallFloatOutOfRange (Ok tt))) → v ≡ candidate_check file p blocked
-unfolding candidate_check
-check_is file p blocked e = e
-
-pub ruleset checks = (asking, check_is)
-
--- ---- a check that passed
-module _ (file : List ℕ) (p : Vec2) (blocked : List ℕ) {r : Check} (asked : r ≡ candidate_check file p blocked) (passed : r ≡ Ok tt) where
-  pub file_passed : first_no file ≡ Ok tt
-  unfolding candidate_check
-  file_passed = (both_passed (first_no file) _ (sym asked ∙ passed)).0
-
-  -- where the deck is there, all that a query asks has passed
-  pub query_asked : (deck : ℕ) → question17 (decks_in file) deck ≡ true → query_check file p deck blocked ≡ Ok tt
-  unfolding candidate_check query_check
-  query_asked deck there =
-      let a = both_passed (first_no file) _ (sym asked ∙ passed) in
-      let b = asked_yes (question14 blocked) WrongLength _ a.1 in
-      let d = asked_yes (question16 p) CallFloatOutOfRange _ b.1 in
-      rw (a.0, b.0, d.0, there)
+-- ---- a check that passed: where the deck is there, all that a query asks has passed
+pub query_asked : (file : List ℕ) (p : Vec2) (blocked : List ℕ) → candidate_check file p blocked ≡ Ok tt → (deck : ℕ) → question17 (decks_in file) deck ≡ true
+    → query_check file p deck blocked ≡ Ok tt
+unfolding candidate_check query_check
+query_asked file p blocked passed deck there =
+    let a = both_passed (first_no file) _ passed in
+    let b = asked_yes (question14 blocked) WrongLength _ a.1 in
+    let d = asked_yes (question16 p) CallFloatOutOfRange _ b.1 in
+    rw (a.0, b.0, d.0, there)
 
 -- ---- 'a blocked named deck .. gives nothing'
 pub blocked_gives_nothing : (file : List ℕ) (p : Vec2) (deck : ℕ) (blocked : List ℕ) → (deck ≡ all_ones → ⊥) → is_blocked blocked deck ≡ true
