@@ -6,6 +6,7 @@ use mathlib.Core.Bool.{Bool, true, false, not}
 use mathlib.Core.List.{List}
 use lib.IntN.{ℤ}
 use lib.ListN.{length}
+use Rattle.geometry.specs.declared.Vec2.{Vec2}
 use Rattle.geometry.specs.Bounds.{PointWithin}
 use Rattle.ring.specs.Table.{directions}
 use Rattle.words.specs.Bytes.{splice}
@@ -14,8 +15,7 @@ use Rattle.answers.specs.Questions.{question20}
 use Rattle.answers.specs.Replies.{Replied}
 use Rattle.answers.proofs.Asking.{said_yes, q20_fits}
 use Rattle.answers.proofs.Replying.{replied_refused, replied_short, replied_written, room_short, room_fits}
-use Rattle.answers.specs.Checks.{Check}
-use Rattle.std.specs.Prelude.{Ok, Err}
+use Rattle.std.specs.Prelude.{Result, Ok, Err}
 use Rattle.answers.specs.declared.Refusal.TheVariants.{NoRoom}
 use Rattle.records.specs.declared.SeatRecord.{SeatRecord}
 use Rattle.records.specs.Record.{record_size, record_bytes}
@@ -23,9 +23,15 @@ use Rattle.records.proofs.ReadBack.{no_record, record_length}
 use Rattle.ship.specs.Decode.{decode}
 use Rattle.survey.specs.declared.Seat.{Seat}
 use Rattle.survey.specs.Search.{seat_record}
-use Rattle.walking.specs.Sees.{seen_by, SearchReady}
+use Rattle.walking.specs.Sees.{seen_by}
 use Rattle.seat_run.specs.SeatFile.{seat_at, seat_count, question16_seat}
-use Rattle.seat_run.specs.Run.{record_of_seat, run_check, run_records, run_reply, RecordsReady, RecordsPut}
+use Rattle.seat_run.specs.Run.{record_of_seat, run_check, run_records, run_reply, RecordsRoom, RecordsPut}
+use Rattle.seat_run.specs.Ready.{RunReady}
+use Rattle.decks.specs.Opened.{opened}
+use Rattle.decks.proofs.Opening.{opened_err, opened_ok}
+use Rattle.keeping.specs.Lists.{ListsRoom}
+use Rattle.walking.specs.Lists.{Sifted, ListsReady, WalkReady}
+use Rattle.answers.specs.declared.Refusal.{Refusal}
 use Rattle.seat_run.specs.Survey.{Surveyed}
 use Rattle.seat_run.specs.Blocked.{BlockedUnplaced}
 use Rattle.seat_run.proofs.SeatAsks.{RunPassed, run_yes, run_blocked, seat_yes16, seat_inside}
@@ -35,87 +41,106 @@ use Rattle.seat_run.proofs.BlockedTheorem.{blocked_unplaced}
 use Rattle.seat_run.proofs.NoDecksTheorem.{no_decks_replied}
 
 -- ---- `put_seat`
-module _ {file blocked : List ℕ} {table : List ℤ} {seats out : List ℕ} {i : ℕ} (ready : RecordsReady file blocked table seats out) (h : i < seat_count seats) where
+module _ {file blocked : List ℕ} {table : List ℤ} {seats : List ℕ} {i : ℕ} (ready : RunReady file blocked table seats) (h : i < seat_count seats) where
   asked : RunPassed file blocked seats
   asked = run_yes file blocked seats ready.passed
 
   pub seat_floats : question16_seat seats i ≡ true
   seat_floats = seat_yes16 asked i h
 
-  pub seat_ready : {seat : Seat} → PointWithin 1000000 seat.place → SearchReady file blocked table seat
-  seat_ready p =
+  pub seat_lists : {p : Vec2} {kept : List ℕ} → PointWithin 1000000 p → ListsRoom kept → ListsReady file p kept
+  seat_lists within room = record { file_passed = asked.file_passed; place_within = within; room = room }
+
+  pub seat_blocked : length blocked ≡ 32
+  seat_blocked = run_blocked file blocked seats asked
+
+  pub seat_walks : {seat : Seat} {kept : List ℕ} → PointWithin 1000000 seat.place → Sifted file seat.place kept → WalkReady file blocked table seat kept
+  seat_walks within sifted =
       record {
-        file_ready = record { file_passed = asked.file_passed; table_is = ready.table_is };
-        blocked_long = run_blocked file blocked seats asked;
-        place_within = p;
+        search_ready =
+            record {
+              file_ready = record { file_passed = asked.file_passed; table_is = ready.table_is };
+              blocked_long = seat_blocked;
+              place_within = within;
+            };
+        sifted = sifted;
       }
 
-  pub seat_room : record_size * i + record_size ≤ length out
-  seat_room = omega (arith, ready.room)
+pub seat_room : (seats : List ℕ) {i room : ℕ} → i < seat_count seats → record_size * seat_count seats ≤ room → record_size * i + record_size ≤ room
+seat_room seats h room = omega arith
 
 pub seat_record_lem : (file blocked seats : List ℕ) (i : ℕ) {seat : Seat} {r : SeatRecord} → seat ≡ seat_at seats i
     → r ≡ seat_record (seen_by file blocked seat) (decode file).steps → r ≡ record_of_seat (decode file) blocked seats i
 seat_record_lem file blocked seats i is placed = placed ∙ rw is
 
-pub ruleset seat_put = (seat_inside, seat_floats, seat_ready, seat_room, seat_record_lem)
+pub ruleset seat_put = (seat_inside, seat_floats, seat_lists, seat_blocked, seat_walks, seat_room, seat_record_lem)
 
 -- ---- `put_records`: the records of the seats below i stand in the output, and the others are left
-pub record Recording (file blocked : List ℕ) (table : List ℤ) (seats out₀ out : List ℕ) (i : ℕ) : Type 0 where
-  pub ready : RecordsReady file blocked table seats out
-  pub room : record_size * seat_count seats ≤ length out₀
+pub record Recording (file blocked seats out₀ out : List ℕ) (i : ℕ) : Type 0 where
+  pub room : RecordsRoom seats out₀
   pub rest : Rest record_bytes record_size no_record out₀ 0 (run_records file blocked seats) out i
 
-pub recording_all : {file blocked : List ℕ} {table : List ℤ} {seats out : List ℕ} → RecordsReady file blocked table seats out → Recording file blocked table seats out out 0
-recording_all h = record { ready = h; room = h.room; rest = rest_all }
+pub recording_all : {file blocked seats out : List ℕ} → RecordsRoom seats out → Recording file blocked seats out out 0
+recording_all h = record { room = h; rest = rest_all }
 
-module _ {file blocked : List ℕ} {table : List ℤ} {seats out₀ out : List ℕ} {i n : ℕ} (t : Recording file blocked table seats out₀ out i) (e : n ≡ seat_count seats) where
-  pub recording_none : n ≤ i → RecordsPut file blocked seats out₀ out
-  recording_none h =
-      rest_front t.rest record_length (omega (arith, run_length (decode file) blocked seats)) ∙ rw (run_length (decode file) blocked seats)
+module _ {file blocked seats out₀ out : List ℕ} {i : ℕ} (t : Recording file blocked seats out₀ out i) where
+  pub recording_long : length out ≡ length out₀
+  recording_long = t.rest.long
 
-  pub recording_there : i < n → i < seat_count seats
-  recording_there h = omega arith
+  pub recording_room : RecordsRoom seats out
+  recording_room = omega (arith, t.room, t.rest.long)
 
-  pub recording_more : {r : SeatRecord} {out' : List ℕ} → i < n → r ≡ record_of_seat (decode file) blocked seats i
-      → out' ≡ splice out (record_size * i) (record_bytes r) → Recording file blocked table seats out₀ out' (i + 1)
-  recording_more h is w =
-      let long = run_length (decode file) blocked seats in
-      let more = rest_more_front t.rest record_length (omega arith) (omega (arith, t.room)) (is ∙ sym (run_at (decode file) blocked seats i (omega arith))) refl w in
-      record {
-        ready = record { passed = t.ready.passed; table_is = t.ready.table_is; room = omega (arith, t.room, more.long) };
-        room = t.room;
-        rest = more;
-      }
+  module _ {n : ℕ} (e : n ≡ seat_count seats) where
+    pub recording_none : n ≤ i → RecordsPut file blocked seats out₀ out
+    recording_none h =
+        rest_front t.rest record_length (omega (arith, run_length (decode file) blocked seats)) ∙ rw (run_length (decode file) blocked seats)
 
-pub recording_long : {file blocked : List ℕ} {table : List ℤ} {seats out₀ out : List ℕ} {i : ℕ} → Recording file blocked table seats out₀ out i → length out ≡ length out₀
-recording_long t = t.rest.long
+    pub recording_there : i < n → i < seat_count seats
+    recording_there h = omega arith
 
-pub recording_ready : {file blocked : List ℕ} {table : List ℤ} {seats out₀ out : List ℕ} {i : ℕ} → Recording file blocked table seats out₀ out i
-    → RecordsReady file blocked table seats out
-recording_ready t = t.ready
+    pub recording_more : {r : SeatRecord} {out' : List ℕ} → i < n → r ≡ record_of_seat (decode file) blocked seats i
+        → out' ≡ splice out (record_size * i) (record_bytes r) → Recording file blocked seats out₀ out' (i + 1)
+    recording_more h is w =
+        let long = run_length (decode file) blocked seats in
+        record {
+          room = t.room;
+          rest = rest_more_front t.rest record_length (omega arith) (omega (arith, t.room)) (is ∙ sym (run_at (decode file) blocked seats i (omega arith))) refl w;
+        }
 
-pub ruleset recording = (recording_all, recording_none, recording_there, recording_more, recording_long, recording_ready)
+pub ruleset recording = (recording_all, recording_none, recording_there, recording_more, recording_long, recording_room)
 
--- ---- `run`
-module _ (file blocked seats : List ℕ) {r : Check} (asked : r ≡ run_check file blocked seats) (passed : r ≡ Ok tt) (out : List ℕ) {fits : Bool}
-    (room : fits ≡ question20 (record_size * seat_count seats) (length out)) where
-  pub run_refused : not fits ≡ true → Replied (run_reply file blocked seats) out out (Err NoRoom)
-  run_refused no_room = replied_short asked passed (room_short (run_reply file blocked seats) out record_size (seat_count seats) (reply_long file blocked seats) room no_room)
+-- ---- `run_over`
+module _ (file blocked seats : List ℕ) {r : Result (List ℕ) Refusal} (asked : r ≡ opened (run_check file blocked seats) file) (out : List ℕ) where
+  pub run_refused : {refusal : Refusal} → r ≡ Err refusal → Replied (run_reply file blocked seats) out out (Err refusal)
+  run_refused e = replied_refused refl (opened_err (run_check file blocked seats) file (sym asked ∙ e))
 
-  module _ (has_room : not fits ≡ false) where
-    pub run_ready : {table : List ℤ} → table ≡ directions → RecordsReady file blocked table seats out
-    run_ready d =
-        record { passed = sym asked ∙ passed; table_is = d; room = q20_fits (record_size * seat_count seats) (length out) (said_yes room has_room) }
+  module _ {ship : List ℕ} (opens : r ≡ Ok ship) where
+    passed : run_check file blocked seats ≡ Ok tt
+    passed = (opened_ok (run_check file blocked seats) file (sym asked ∙ opens)).0
 
-    pub run_replied : {out' : List ℕ} → RecordsPut file blocked seats out out' → Replied (run_reply file blocked seats) out out' (Ok (seat_count seats))
-    run_replied w =
-        replied_written asked passed (room_fits (run_reply file blocked seats) out record_size (seat_count seats) (reply_long file blocked seats) room has_room)
-        (sym (run_length (decode file) blocked seats)) (w ∙ rw (reply_long file blocked seats))
+    ship_is : ship ≡ file
+    ship_is = (opened_ok (run_check file blocked seats) file (sym asked ∙ opens)).1
 
-    pub run_surveyed : {out' : List ℕ} → RecordsPut file blocked seats out out' → Surveyed file blocked seats (Ok (seat_count seats)) out'
-    run_surveyed w = surveyed file blocked seats out (run_replied w)
+    pub run_ready : {table : List ℤ} → table ≡ directions → RunReady ship blocked table seats
+    run_ready d = record { passed = rw ship_is passed; table_is = d }
 
-    pub run_unsearched : {out' : List ℕ} → RecordsPut file blocked seats out out' → BlockedUnplaced file blocked seats (Ok (seat_count seats)) out'
-    run_unsearched w = blocked_unplaced file blocked seats out (run_replied w)
+    module _ {fits : Bool} (room : fits ≡ question20 (record_size * seat_count seats) (length out)) where
+      pub run_short : not fits ≡ true → Replied (run_reply file blocked seats) out out (Err NoRoom)
+      run_short no_room = replied_short refl passed (room_short (run_reply file blocked seats) out record_size (seat_count seats) (reply_long file blocked seats) room no_room)
 
-pub ruleset running = (replied_refused, run_refused, run_ready, run_replied, run_surveyed, run_unsearched, no_decks_replied)
+      module _ (has_room : not fits ≡ false) {out' : List ℕ} (w : RecordsPut ship blocked seats out out') where
+        pub run_replied : Replied (run_reply file blocked seats) out out' (Ok (seat_count seats))
+        run_replied =
+            replied_written refl passed (room_fits (run_reply file blocked seats) out record_size (seat_count seats) (reply_long file blocked seats) room has_room)
+            (sym (run_length (decode file) blocked seats)) ((rw ship_is at w) ∙ rw (reply_long file blocked seats))
+
+        pub run_surveyed : Surveyed file blocked seats (Ok (seat_count seats)) out'
+        run_surveyed = surveyed file blocked seats out run_replied
+
+        pub run_unsearched : BlockedUnplaced file blocked seats (Ok (seat_count seats)) out'
+        run_unsearched = blocked_unplaced file blocked seats out run_replied
+
+pub run_room : (seats out : List ℕ) {fits : Bool} → fits ≡ question20 (record_size * seat_count seats) (length out) → not fits ≡ false → RecordsRoom seats out
+run_room seats out room has_room = q20_fits (record_size * seat_count seats) (length out) (said_yes room has_room)
+
+pub ruleset running = (run_refused, run_short, run_ready, run_room, run_replied, run_surveyed, run_unsearched, no_decks_replied)

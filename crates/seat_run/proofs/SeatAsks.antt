@@ -2,22 +2,25 @@
 use Prim.Native.Nat.{ℕ, ◌+◌, ◌*◌, ◌%◌, ◌≤◌, ◌<◌}
 use native.Mathlib.Nat.{div-mul-le_self}
 use native.Mathlib.Omega.{arith}
-use mathlib.Core.Path.{◌≡◌}
+use mathlib.Core.Path.{◌≡◌, sym, ap, ◌∙◌}
 use mathlib.Core.Bool.{Bool, true, false, not}
 use mathlib.Core.List.{List}
 use borrow.Author.Tests.{eq-eqb, ne_eqb}
 use lib.Dec.{eqb}
 use lib.ListN.{length}
 use Rattle.words.proofs.TableRows.{both}
-use Rattle.answers.specs.Checks.{ask, after, check_each, Check}
+use Rattle.answers.specs.Checks.{ask, check_each, Check}
 use Rattle.answers.specs.Questions.{question14, question17}
 use Rattle.answers.proofs.Asking.{asking, said_no, said_yes, asked_yes, both_passed, each_passed, checking, blocked_32}
-use Rattle.std.specs.Prelude.{Ok}
+use Rattle.std.specs.Prelude.{Result, Ok, Err}
+use Rattle.answers.specs.declared.Refusal.{Refusal}
 use Rattle.answers.specs.declared.Refusal.TheVariants.{WrongLength, KindNotAllowed, CallFloatOutOfRange, NoSuchDeck}
 use Rattle.ship.specs.Layout.{decks_in}
 use Rattle.ship.specs.Questions.{first_no}
 use Rattle.seat_run.specs.SeatFile.{seat_size, seat_count, deck_word, kind_word, height_word, kind_allowed, question14_seats, question15, question16_seat, seat_check}
 use Rattle.seat_run.specs.Run.{run_check}
+use Rattle.decks.specs.Opened.{opened}
+use Rattle.decks.proofs.Opening.{opened_err, opened_ok}
 
 -- ---- `seat_check`
 module _ (s : List ℕ) (i : ℕ) where
@@ -55,16 +58,31 @@ module _ (blocked seats : List ℕ) {b : Bool} (asked : b ≡ question14 blocked
     unfolding question14_seats
     seats_whole e = rw (said_yes asked whole, eq-eqb (length seats % seat_size) 0 e)
 
-pub list_asked : (file seats : List ℕ) {decks : ℕ} {r : Check} → decks ≡ decks_in file → r ≡ check_each (seat_check seats decks) 0 (seat_count seats)
-    → r ≡ check_each (seat_check seats (decks_in file)) 0 (seat_count seats)
-list_asked file seats e f = rw e at f
+module _ (file blocked seats : List ℕ) {r : Result (List ℕ) Refusal} (asked : r ≡ opened (first_no file) file) where
+  pub file_no : {refusal : Refusal} → r ≡ Err refusal → Err refusal ≡ opened (run_check file blocked seats) file
+  unfolding run_check
+  file_no e = rw (opened_err (first_no file) file (sym asked ∙ e))
 
-pub run_is : (file blocked seats : List ℕ) {v : Check}
-    → v ≡ after (first_no file) (ask (question14_seats blocked seats) WrongLength (check_each (seat_check seats (decks_in file)) 0 (seat_count seats))) → v ≡ run_check file blocked seats
-unfolding run_check
-run_is file blocked seats e = e
+  module _ {ship : List ℕ} (opens : r ≡ Ok ship) where
+    pub length_no : question14_seats blocked seats ≡ false → Err WrongLength ≡ opened (run_check file blocked seats) file
+    unfolding run_check
+    length_no wrong = rw ((opened_ok (first_no file) file (sym asked ∙ opens)).0, wrong)
 
-pub ruleset run_asks = (asking, blocked_no, seats_no, seats_whole, list_asked, run_is)
+    module _ (whole : question14_seats blocked seats ≡ true) {decks : ℕ} (there : decks ≡ decks_in ship) {seen : Check}
+        (all : seen ≡ check_each (seat_check seats decks) 0 (seat_count seats)) where
+      list_asked : opened (run_check file blocked seats) file ≡ opened seen ship
+      unfolding run_check
+      list_asked =
+          let o = opened_ok (first_no file) file (sym asked ∙ opens) in
+          rw (o.0, whole, all, there, o.1)
+
+      pub list_no : {refusal : Refusal} → seen ≡ Err refusal → Err refusal ≡ opened (run_check file blocked seats) file
+      list_no e = sym (list_asked ∙ ap (λ (v : Check). opened v ship) e)
+
+      pub list_yes : seen ≡ Ok tt → Ok ship ≡ opened (run_check file blocked seats) file
+      list_yes e = sym (list_asked ∙ ap (λ (v : Check). opened v ship) e)
+
+pub ruleset run_asks = (blocked_no, seats_no, seats_whole, file_no, length_no, list_no, list_yes)
 
 -- ---- a passed run
 pub record RunPassed (file blocked seats : List ℕ) : Type 0 where

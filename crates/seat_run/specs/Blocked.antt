@@ -16,7 +16,7 @@ NamesBlocked blocked seats i = (deck_word seats i ≡ all_ones → ⊥) × (is_b
 
 -- What holds of a run on these bytes that answered so and left this output: D is 0 for such a seat, and these are its record's bytes.
 abbrev pub BlockedUnplaced : List ℕ → List ℕ → List ℕ → Answer → List ℕ → Type 0
-BlockedUnplaced file blocked seats (Err number) out = Unit {0}
+BlockedUnplaced file blocked seats (Err refusal) out = Unit {0}
 BlockedUnplaced file blocked seats (Ok n) out =
     ((i : ℕ) → i < n → NamesBlocked blocked seats i → open_decks (view (decode file) blocked (seat_at seats i)) ≡ 0)
     × ((i : ℕ) → i < n → NamesBlocked blocked seats i → record_slice out i ≡ untried_bytes)

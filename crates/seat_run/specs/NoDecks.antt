@@ -12,7 +12,9 @@ use Rattle.seat_run.specs.SeatFile.{deck_word, seat_count, question14_seats, que
 
 -- 15 to 17 of a seat: 'a seat naming a deck still gets 17'
 unfoldable pub unnamed_check : List ℕ → ℕ → Check
-unnamed_check s i = ask (question15 s i) KindNotAllowed (ask (question16_seat s i) CallFloatOutOfRange (ask (eqb (deck_word s i) all_ones) NoSuchDeck (Ok tt)))
+unnamed_check s i =
+    ask (question15 s i) KindNotAllowed
+    (ask (question16_seat s i) CallFloatOutOfRange (ask (eqb (deck_word s i) all_ones) NoSuchDeck (Ok tt)))
 
 -- the questions of the run before 20
 unfoldable pub no_decks_check : List ℕ → List ℕ → List ℕ → Check
@@ -22,7 +24,11 @@ no_decks_check file blocked seats =
 -- 'no seat is placed, nothing is tried': 36 bytes a seat, all ones and then zeros
 abbrev pub no_decks_reply : List ℕ → List ℕ → List ℕ → Reply
 no_decks_reply file blocked seats =
-    record { check = no_decks_check file blocked seats; count = seat_count seats; bytes = collect_all (λ i. untried_bytes) 0 (seat_count seats) }
+    record {
+      check = no_decks_check file blocked seats;
+      count = seat_count seats;
+      bytes = collect_all (λ i. untried_bytes) 0 (seat_count seats);
+    }
 
 -- what a run promises on such a file, and over C
 pub record NoDecksReplied (file blocked seats out out' : List ℕ) (r : Answer) : Type 0 where

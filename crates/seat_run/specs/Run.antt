@@ -1,6 +1,5 @@
 -- Document 01, section 7: the seat run, its questions and its records.
-use Rattle.std.specs.Prelude.{ℕ, ◌*◌, ◌≤◌, ◌≡◌, List, ◌++◌, map, ℤ, length, drop, Ok}
-use Rattle.ring.specs.Table.{directions}
+use Rattle.std.specs.Prelude.{ℕ, ◌*◌, ◌≤◌, ◌≡◌, List, ◌++◌, map, ℤ, length, drop}
 use Rattle.answers.specs.Checks.{ask, after, check_each, Check}
 use Rattle.answers.specs.Replies.{Reply, reply_of, Replied, RepliedCode, Answer}
 use Rattle.answers.specs.declared.Refusal.TheVariants.{WrongLength}
@@ -18,7 +17,8 @@ use Rattle.seat_run.specs.SeatFile.{seat_at, seat_count, seats_of, question14_se
 -- the questions of the run before 20, in their order; the seats' one seat after the other
 unfoldable pub run_check : List ℕ → List ℕ → List ℕ → Check
 run_check file blocked seats =
-    after (first_no file) (ask (question14_seats blocked seats) WrongLength (check_each (seat_check seats (decks_in file)) 0 (seat_count seats)))
+    after (first_no file)
+    (ask (question14_seats blocked seats) WrongLength (check_each (seat_check seats (decks_in file)) 0 (seat_count seats)))
 
 -- the record of seat i
 abbrev pub record_of_seat : Ship → List ℕ → List ℕ → ℕ → SeatRecord
@@ -42,11 +42,9 @@ RunReplied file blocked seats out out' r = Replied (run_reply file blocked seats
 abbrev pub RunCode : List ℕ → List ℕ → List ℕ → List ℕ → List ℕ → ℤ → Type 0
 RunCode file blocked seats out out' r = RepliedCode (run_reply file blocked seats) out out' r
 
--- ---- what it needs to write the records, and that they stand in the output from its first byte on, and nothing else is altered
-pub record RecordsReady (file blocked : List ℕ) (table : List ℤ) (seats out : List ℕ) : Type 0 where
-  pub passed : run_check file blocked seats ≡ Ok tt
-  pub table_is : table ≡ directions
-  pub room : record_size * seat_count seats ≤ length out
+-- ---- the records stand in the output from its first byte on, and nothing else is altered
+abbrev pub RecordsRoom : List ℕ → List ℕ → Type 0
+RecordsRoom seats out = record_size * seat_count seats ≤ length out
 
 abbrev pub RecordsPut : List ℕ → List ℕ → List ℕ → List ℕ → List ℕ → Type 0
 RecordsPut file blocked seats out out' = out' ≡ records_bytes (run_records file blocked seats) ++ drop (record_size * seat_count seats) out

@@ -62,4 +62,6 @@ unfoldable pub question16_seat : List ℕ → ℕ → Bool
 question16_seat s i = in_size (seat_float s i 0) && (in_size (seat_float s i 1) && in_size (seat_float s i 4))
 
 unfoldable pub seat_check : List ℕ → ℕ → ℕ → Check
-seat_check s decks i = ask (question15 s i) KindNotAllowed (ask (question16_seat s i) CallFloatOutOfRange (ask (question17 decks (deck_word s i)) NoSuchDeck (Ok tt)))
+seat_check s decks i =
+    ask (question15 s i) KindNotAllowed
+    (ask (question16_seat s i) CallFloatOutOfRange (ask (question17 decks (deck_word s i)) NoSuchDeck (Ok tt)))

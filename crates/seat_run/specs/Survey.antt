@@ -30,11 +30,12 @@ Kept n out out' = (i : ℕ) → i < n → ((record_at out i).polygon ≡ all_one
 
 -- What holds of a run on these bytes that answered so and left this output. A refused run says nothing of seats.
 abbrev pub Surveyed : List ℕ → List ℕ → List ℕ → Answer → List ℕ → Type 0
-Surveyed file blocked seats (Err number) out = Unit {0}
+Surveyed file blocked seats (Err refusal) out = Unit {0}
 Surveyed file blocked seats (Ok n) out =
     Survey (decode file) blocked (seats_of seats) (records_in out n)
     × ((S : ℕ) → steps_in file ≤ S → S ≤ 16 → (out' : List ℕ) → length out ≤ length out'
-    → (answer_to (run_reply (with_steps_bytes file S) blocked seats) out' ≡ Ok n) × Kept n out (output_to (run_reply (with_steps_bytes file S) blocked seats) out'))
+    → (answer_to (run_reply (with_steps_bytes file S) blocked seats) out' ≡ Ok n)
+    × Kept n out (output_to (run_reply (with_steps_bytes file S) blocked seats) out'))
 
 -- the same of a run over C, whose answer is a number
 abbrev pub SurveyedCode : List ℕ → List ℕ → List ℕ → List ℕ → List ℕ → Type 0

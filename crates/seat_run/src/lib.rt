@@ -10,18 +10,22 @@ ghost use Rattle.answers.specs.Checks.{check_each};
 ghost use Rattle.records.specs.Record.{record_size, record_bytes};
 ghost use Rattle.ship.specs.Floats.{in_size};
 ghost use Rattle.ship.specs.Decode.{decode};
+ghost use Rattle.decks.specs.Opened.{opened};
 ghost use Rattle.keeping.specs.Lists.{ListsRoom};
 ghost use Rattle.seat_run.specs.SeatFile.{seat_size, seat_word, seat_float, seat_at, seat_count, kind_allowed, question16_seat, seat_check};
-ghost use Rattle.seat_run.specs.Run.{record_of_seat, run_check, RunReplied, RecordsReady, RecordsPut};
+ghost use Rattle.seat_run.specs.Run.{record_of_seat, run_check, RunReplied, RecordsRoom, RecordsPut};
+ghost use Rattle.seat_run.specs.Ready.{RunReady, run_ready_prop};
 ghost use Rattle.seat_run.specs.Survey.{Surveyed};
 ghost use Rattle.seat_run.specs.Blocked.{BlockedUnplaced};
 ghost use Rattle.seat_run.specs.NoDecks.{NoDecksReplied};
 
 use answers::{Answer, Check, Refusal};
+use decks::Ship;
 use geometry::Vec2;
 use keeping::{KEPT_SIZE, NEAR_SIZE};
 use records::{RECORD_SIZE, SeatRecord};
 use survey::{DeckChoice, Seat, Wish};
+use walking::Search;
 
 pub const SEAT_SIZE: usize = 20;
 
@@ -84,6 +88,7 @@ fn floats_in_size(seats: &[u8], i: usize) -> bool
 }
 
 // Questions 15 to 17 of seat i.
+#[tactic(auto, using(crate::proofs::SeatAsks::seat_asks))]
 fn seat_check(seats: &[u8], decks: usize, i: usize) -> Check
     requires { seat_size * i + seat_size ≤ length seats.now }
     ensures { result ≡ seat_check seats.now decks i }
@@ -112,57 +117,66 @@ fn seats_check(seats: &[u8], decks: usize) -> Check
 }
 
 // Questions 1 to 17 of the run.
-pub fn run_check(file: &[u8], blocked: &[u8], seats: &[u8]) -> Check
-    ensures { result ≡ run_check file.now blocked.now seats.now }
+pub fn run_check<'a>(file: &'a [u8], blocked: &[u8], seats: &[u8]) -> Result<Ship<'a>, Refusal>
+    ensures { result ≡ opened (run_check file.now blocked.now seats.now) file.now }
 {
-    ship::first_no(file)?;
+    let ship = Ship::open(file)?;
     if !answers::blocked_whole(blocked) {
         return Err(Refusal::WrongLength);
     }
     if seats.len() % SEAT_SIZE != 0 {
         return Err(Refusal::WrongLength);
     }
-    seats_check(seats, decks::deck_count(file))
+    seats_check(seats, ship.deck_count())?;
+    Ok(ship)
+}
+
+// What a run asks of: the ship, the blocked decks, the table of directions, and a list of seats, all of which passed questions 1 to 17.
+#[derive(Clone, Copy)]
+pub struct SeatRun<'a> {
+    pub ship: &'a Ship<'a>,
+    pub blocked: &'a [u8],
+    pub table: &'a [i32; 2432],
+    pub seats: &'a [u8],
+    pub ghost ready: { RunReady ship.now blocked.now table.now seats.now } by { run_ready_prop ship.now blocked.now table.now seats.now },
 }
 
 // Seat i is placed, and its record written at its place in the output.
 pub fn put_seat(
-    file: &[u8],
-    blocked: &[u8],
-    table: &[i32; 2432],
-    seats: &[u8],
+    run: &SeatRun<'_>,
     i: usize,
     out: &mut [u8],
     kept: &mut [u32],
     near: &mut [u32],
 ) -> SeatRecord
-    requires { RecordsReady file.now blocked.now table.now seats.now out.old
-        × ((i < seat_count seats.now) × ListsRoom kept.old) }
-    ensures { (result ≡ record_of_seat (decode file.now) blocked.now seats.now i)
+    requires { RecordsRoom run.now.seats.now out.old × ((i < seat_count run.now.seats.now) × ListsRoom kept.old) }
+    ensures { (result ≡ record_of_seat (decode run.now.ship.now) run.now.blocked.now run.now.seats.now i)
         × (out.new ≡ splice out.old (record_size * i) (record_bytes result)) }
 {
-    let record = placing::place_seat(file, blocked, table, seat_at(seats, i), kept, near);
+    let seat = seat_at(run.seats, i);
+    walking::sift_decks(run.ship, run.blocked, seat, kept);
+    let search = Search {
+        ship: run.ship,
+        blocked: run.blocked,
+        table: run.table,
+        seat,
+        kept,
+    };
+    let record = placing::place_seat(&search, near);
     records::put_record(out, i, record);
     record
 }
 
 // One record a seat, in list order.
-fn put_records(
-    file: &[u8],
-    blocked: &[u8],
-    table: &[i32; 2432],
-    seats: &[u8],
-    out: &mut [u8],
-    kept: &mut [u32],
-    near: &mut [u32],
-)
-    requires { RecordsReady file.now blocked.now table.now seats.now out.old × ListsRoom kept.old }
-    ensures { RecordsPut file.now blocked.now seats.now
+#[tactic(auto, using(crate::proofs::RunLoop::recording, keeping::proofs::ListLaws::lent))]
+fn put_records(run: &SeatRun<'_>, out: &mut [u8], kept: &mut [u32], near: &mut [u32])
+    requires { RecordsRoom run.now.seats.now out.old × ListsRoom kept.old }
+    ensures { RecordsPut run.now.ship.now run.now.blocked.now run.now.seats.now
         out.old out.new }
 {
-    let count = seats.len() / SEAT_SIZE;
+    let count = run.seats.len() / SEAT_SIZE;
     'seats: for seat in 0..count {
-        put_seat(file, blocked, table, seats, seat, out, kept, near);
+        put_seat(run, seat, out, kept, near);
     }
 }
 
@@ -183,13 +197,19 @@ pub fn run_over(
     ensures no_decks { NoDecksReplied file.now blocked.now seats.now
         out.old out.new result }
 {
-    run_check(file, blocked, seats)?;
+    let ship = run_check(file, blocked, seats)?;
     let count = seats.len() / SEAT_SIZE;
     if !answers::room_for(RECORD_SIZE, count, out.len()) {
         return Err(Refusal::NoRoom);
     }
     let table = ring::all_directions();
-    put_records(file, blocked, &table, seats, out, kept, near);
+    let run = SeatRun {
+        ship: &ship,
+        blocked,
+        table: &table,
+        seats,
+    };
+    put_records(&run, out, kept, near);
     Ok(count)
 }
 

@@ -52,7 +52,7 @@ named (Err NoRoom) = refl
 named (Err WrongInput) = refl
 named (Err NoDirection) = refl
 
-check_set : IsSet Check
+pub check_set : IsSet Check
 check_set =
     collapsible→set (λ x y p. sym (named x) ∙ ap check_of (ap number p) ∙ named y)
     (λ x y p q. ap (λ z. sym (named x) ∙ ap check_of z ∙ named y) (ℕ_set (number x) (number y) (ap number p) (ap number q)))

@@ -7,4 +7,4 @@ use Rattle.seat_run.proofs.put_records.Given as goal
 
 abbrev pub invariant-seats : goal.invariant-seats
 invariant-seats l =
-    (l.count ≡ seat_count l.seats) × (Lent l.initial.kept l.kept l.initial.near l.near × Recording l.file l.blocked l.table l.seats l.initial.out l.out l.seat)
+    (l.count ≡ seat_count l.run.seats.now) × (Lent l.initial.kept l.kept l.initial.near l.near × Recording l.run.ship.now l.run.blocked.now l.run.seats.now l.initial.out l.out l.seat)
