@@ -18,7 +18,6 @@ use Rattle.ship.specs.Layout.{number_size, decks_in}
 use Rattle.ship.specs.Model.{Ship, deck_of, polygons_before, polygon_total}
 use Rattle.ship.specs.Packed.{packed_deck, packed_polygon}
 use Rattle.ship.specs.Decode.{decode}
-use Rattle.ship.proofs.Facts.{decks_few}
 use Rattle.ship.proofs.ModelFacts.{decks_length}
 use Rattle.islands.specs.Islands.{polygon_count}
 use Rattle.loads.specs.Sheet.{ship_labels, island_place, sheet_of, polygon_entry, island_entry, deck_entry, unplaced_entry, sheet_length}
@@ -98,13 +97,7 @@ module _ {table : List ℕ} {a b c : ℕ} (ready : ThreeReady table a b c) where
 pub ruleset three_adding = (first_room, first_more, second_room, second_more, third_room, third_more, three_added)
 
 -- ---- `count_placed`: the polygon's place, its label's, and the three counts
-module _ {file table work : List ℕ} {d k total : ℕ} (ready : PlacedReady file d k total table work) where
-  abbrev ship : Ship
-  ship = decode file
-
-  pub placed_deck : d ≤ decks_in file
-  placed_deck = omega (arith, ready.deck_there, decks_length file)
-
+module _ {ship : Ship} {table work : List ℕ} {d k : ℕ} (ready : PlacedReady ship d k table work) where
   -- places among all polygons
   module _ {before : ℕ} (before-is : before ≡ polygons_before ship d) where
     pub own_inside : before + k < polygon_total ship
@@ -120,55 +113,60 @@ module _ {file table work : List ℕ} {d k total : ℕ} (ready : PlacedReady fil
           (entry_inside ship d (island_place (ship_labels ship) d k) ready.deck_there
           (rw (labels_of ship d) (label_below (deck_of ship d) k ready.polygon_there)))
 
-      pub placed_counted : {table' : List ℕ} → table' ≡ one_more (one_more (one_more table (before + k)) (total + (before + label))) (2 * total + d)
-          → table' ≡ counted_at ship d k table
+      pub placed_counted : {total : ℕ} {table' : List ℕ} → total ≡ polygon_total ship
+          → table' ≡ one_more (one_more (one_more table (before + k)) (total + (before + label))) (2 * total + d) → table' ≡ counted_at ship d k table
       unfolding counted_at
-      placed_counted e = e ∙ rw (before-is, label_place, ready.total_is)
+      placed_counted total_is e = e ∙ rw (before-is, label_place, total_is)
 
-  module _ {x : ℕ} (h : x < polygon_total ship) where
-    pub inside_fits : Fits w64 x
-    inside_fits = record { fits = omega (arith, ready.total_is, ready.total_few) }
-
-    pub inside_scaled : Fits w64 (number_size * x)
-    inside_scaled = record { fits = omega (arith, ready.total_is, ready.total_few) }
-
-    pub label_room : number_size * x + 4 ≤ length work
-    label_room =
-        let all = all_labels ship in
-        rw ready.labels.1 (omega (arith, h, length-append (words_of all) ready.labels.0, length_words all, all_labels_long ship))
-
-    pub island_fits : Fits w64 (total + x)
-    island_fits = record { fits = omega (arith, ready.total_is, ready.total_few) }
-
-    -- places in the table
-    pub polygon_in : x < sheet_length ship
-    polygon_in = omega arith
-
-    pub island_in : total + x < sheet_length ship
-    island_in = omega (arith, ready.total_is)
-
-  pub deck_fits : Fits w64 (2 * total + d)
-  deck_fits = record { fits = omega (arith, ready.total_few, placed_deck, decks_few file ready.passed) }
-
-  pub deck_in : 2 * total + d < sheet_length ship
-  deck_in = omega (arith, ready.total_is, ready.deck_there)
+  pub label_room : {x : ℕ} → x < polygon_total ship → number_size * x + 4 ≤ length work
+  label_room {x} h =
+      let all = all_labels ship in
+      rw ready.labels.1 (omega (arith, h, length-append (words_of all) ready.labels.0, length_words all, all_labels_long ship))
 
   pub three_ready : {a b c : ℕ} → a < sheet_length ship → b < sheet_length ship → c < sheet_length ship → ThreeReady table a b c
   three_ready ha hb hc = record { many = sheet_length ship; tallied = ready.tallied; a_there = ha; b_there = hb; c_there = hc }
 
+  module _ {total : ℕ} (total_is : total ≡ polygon_total ship) where
+    -- places in the table
+    module _ {x : ℕ} (h : x < polygon_total ship) where
+      pub polygon_in : x < sheet_length ship
+      polygon_in = omega arith
+
+      pub island_in : total + x < sheet_length ship
+      island_in = omega (arith, total_is)
+
+    pub deck_in : 2 * total + d < sheet_length ship
+    deck_in = omega (arith, total_is, ready.deck_there)
+
+    -- the numbers on the way
+    module _ (few : total < 2 ^ 32) where
+      module _ {x : ℕ} (h : x < polygon_total ship) where
+        pub inside_fits : Fits w64 x
+        inside_fits = record { fits = omega (arith, total_is) }
+
+        pub inside_scaled : Fits w64 (number_size * x)
+        inside_scaled = record { fits = omega (arith, total_is) }
+
+        pub island_fits : Fits w64 (total + x)
+        island_fits = record { fits = omega (arith, total_is) }
+
+module _ (file : List ℕ) {table work : List ℕ} {d k : ℕ} (ready : PlacedReady (decode file) d k table work) where
+  pub placed_deck : d ≤ decks_in file
+  placed_deck = omega (arith, ready.deck_there, decks_length file)
+
+  pub deck_fits : {total decks : ℕ} → total < 2 ^ 32 → decks ≡ decks_in file → decks ≤ 256 → Fits w64 (2 * total + d)
+  deck_fits few all few_decks = record { fits = omega (arith, placed_deck) }
+
 pub ruleset placed_adding = (placed_deck, own_inside, label_inside, inside_fits, inside_scaled, label_room, island_fits, polygon_in, island_in, deck_fits, deck_in, three_ready, placed_counted)
 
 -- ---- `count_seat`
-module _ {file table work : List ℕ} {polygon total : ℕ} (ready : CountReady file polygon total table work) where
-  module _ {decks : ℕ} (all : decks ≡ decks_in file) where
+module _ (file : List ℕ) {table work : List ℕ} {polygon : ℕ} (ready : CountReady (decode file) polygon table work) where
+  module _ {total decks : ℕ} (total_is : total ≡ polygon_total (decode file)) (all : decks ≡ decks_in file) where
     last_is : 2 * total + decks ≡ unplaced_entry (decode file)
-    last_is = omega (arith, ready.total_is, decks_length file)
+    last_is = omega (arith, total_is, decks_length file)
 
     last_there : 2 * total + decks < sheet_length (decode file)
     last_there = omega (arith, last_is)
-
-    pub last_fits : decks ≤ 256 → Fits w64 (2 * total + decks)
-    last_fits few = record { fits = omega (arith, ready.total_few) }
 
     pub last_room : count_size * (2 * total + decks) + count_size ≤ length table
     last_room = tallied_room ready.tallied last_there
@@ -181,15 +179,12 @@ module _ {file table work : List ℕ} {polygon total : ℕ} (ready : CountReady 
     none_counted none e = rw (eq-eqb polygon all_ones none) (e ∙ rw last_is)
 
   module _ (placed : polygon ≡ all_ones → ⊥) {d k : ℕ} (deck : d ≡ packed_deck polygon) (own : k ≡ packed_polygon polygon) where
-    pub placed_ready : PlacedReady file d k total table work
+    pub placed_ready : PlacedReady (decode file) d k table work
     placed_ready =
         ⊎_elim (λ e. absurd (placed e)) (λ h.
         record {
-          passed = ready.passed;
           deck_there = rw deck h.0;
           polygon_there = rw (deck, own) h.1;
-          total_is = ready.total_is;
-          total_few = ready.total_few;
           tallied = ready.tallied;
           labels = ready.labels;
         }) ready.aboard
@@ -198,7 +193,7 @@ module _ {file table work : List ℕ} {polygon total : ℕ} (ready : CountReady 
     unfolding seat_counted
     one_counted e = rw (ne_eqb polygon all_ones placed) (e ∙ rw (deck, own))
 
-pub ruleset seat_adding = (last_fits, last_room, last_more, none_counted, placed_ready, one_counted)
+pub ruleset seat_adding = (last_room, last_more, none_counted, placed_ready, one_counted)
 
 -- ---- the sheet's bytes with one seat more
 module _ (ship : Ship) (records : List SeatRecord) (r : SeatRecord) where

@@ -13,20 +13,17 @@ use Rattle.words.proofs.Counts.{length_counts}
 use Rattle.records.specs.declared.SeatRecord.{SeatRecord}
 use Rattle.records.specs.Record.{record_size, record_bytes, is_unplaced}
 use Rattle.records.proofs.ReadBack.{no_record}
-use Rattle.ship.specs.Model.{polygon_total}
 use Rattle.ship.specs.Decode.{decode}
-use Rattle.ship.specs.Questions.{first_no}
 use Rattle.seat_run.specs.SeatFile.{seat_count}
-use Rattle.seat_run.specs.Run.{record_of_seat, run_records, RecordsReady}
-use Rattle.seat_run.proofs.SeatAsks.{run_yes}
+use Rattle.seat_run.specs.Run.{record_of_seat, run_records, RecordsRoom}
+use Rattle.seat_run.specs.Ready.{RunReady}
 use Rattle.seat_run.proofs.RunRecords.{run_at, run_length}
-use Rattle.seat_run.proofs.RunLoop.{Recording, recording_all, recording_none, recording_more, recording_long}
+use Rattle.seat_run.proofs.RunLoop.{Recording, recording_all, recording_none, recording_more, recording_long, recording_room}
 use Rattle.loads.specs.Sheet.{ship_labels, on_deck, stands_at, own_place, island_place, polygon_load, island_load, deck_load, unplaced_load, each_polygon, sheet_of}
 use Rattle.loads.specs.Counting.{Aboard, seat_counted, LabelsIn, CountReady, CountsReady, CountsPut}
 use Rattle.loads.proofs.SheetLaws.{count_few, sheet_length_lem}
 use Rattle.loads.proofs.Adding.{seat_sheet}
 use Rattle.loads.proofs.TotalsTheorem.{record_aboard}
-use Rattle.std.specs.Prelude.{Ok}
 
 -- ---- no count is greater than the list is long
 module _ (most : ℕ) where
@@ -68,92 +65,80 @@ sheet_few labels records =
     few_append n (P ++ I ++ D) (unplaced_load records ∷ []) (few_append n (P ++ I) D (few_append n P I polygons islands) decks) (few_last records)
 
 -- ---- `put_counts`
-pub record Counting (file blocked : List ℕ) (directions : List ℤ) (seats out₀ out table work : List ℕ) (total i : ℕ) : Type 0 where
-  pub recording : Recording file blocked directions seats out₀ out i
+pub record Counting (file blocked seats out₀ out table work : List ℕ) (i : ℕ) : Type 0 where
+  pub recording : Recording file blocked seats out₀ out i
   pub labels : LabelsIn (decode file) work
-  pub total_is : total ≡ polygon_total (decode file)
-  pub total_few : total < 2 ^ 32
   pub table_is : table ≡ counts_of (sheet_of (ship_labels (decode file)) (take i (run_records file blocked seats)))
 
-module _ {file blocked : List ℕ} {directions : List ℤ} {seats out table work : List ℕ} (ready : CountsReady file blocked directions seats out table work) where
-  pub counting_file : first_no file ≡ Ok tt
-  counting_file = (run_yes file blocked seats ready.records_ready.passed).file_passed
+pub counting_all : {file blocked seats out table work : List ℕ} → CountsReady file seats out table work → Counting file blocked seats out out table work 0
+counting_all ready = record { recording = recording_all ready.room; labels = ready.labels; table_is = ready.none }
 
-  pub counting_all : {total : ℕ} → total ≡ polygon_total (decode file) → total < 2 ^ 32 → Counting file blocked directions seats out out table work total 0
-  counting_all is few = record { recording = recording_all ready.records_ready; labels = ready.labels; total_is = is; total_few = few; table_is = ready.none }
-
-module _ {file blocked : List ℕ} {directions : List ℤ} {seats out₀ out table work : List ℕ} {total i n : ℕ}
-    (t : Counting file blocked directions seats out₀ out table work total i) (e : n ≡ seat_count seats) where
-  pub counting_none : n ≤ i → CountsPut file blocked seats out₀ out table
-  counting_none h =
-      record {
-        records = recording_none t.recording e h;
-        sheet = t.table_is ∙ ap (λ (l : List SeatRecord). counts_of (sheet_of (ship_labels (decode file)) l))
-            (take_all i (run_records file blocked seats) (omega (arith, run_length (decode file) blocked seats)));
-      }
-
-  module _ (h : i < n) where
-    pub counting_there : i < seat_count seats
-    counting_there = omega arith
-
-    taken : length (take i (run_records file blocked seats)) ≡ i
-    taken = length-take-le i (run_records file blocked seats) (omega (arith, run_length (decode file) blocked seats))
-
-    module _ {r : SeatRecord} (is : r ≡ record_of_seat (decode file) blocked seats i) where
-      aboard : Aboard (decode file) r.polygon
-      aboard = rw is (record_aboard file blocked seats t.recording.ready.passed i (omega arith))
-
-      pub counting_ready : length seats < 2 ^ 64 → CountReady file r.polygon total table work
-      counting_ready long =
-          let few = sheet_few (ship_labels (decode file)) (take i (run_records file blocked seats)) in
-          record {
-            passed = (run_yes file blocked seats t.recording.ready.passed).file_passed;
-            aboard = aboard;
-            total_is = t.total_is;
-            total_few = t.total_few;
-            tallied =
-                record {
-                  counts = sheet_of (ship_labels (decode file)) (take i (run_records file blocked seats));
-                  bytes = t.table_is;
-                  long = sheet_length_lem (decode file) (take i (run_records file blocked seats));
-                  fits = λ k. omega (arith, few k, taken);
-                };
-            labels = t.labels;
-          }
-
-      next_records : take (i + 1) (run_records file blocked seats) ≡ take i (run_records file blocked seats) ++ r ∷ []
-      next_records =
-          rw add-one (take-suc (run_records file blocked seats) i no_record (omega (arith, run_length (decode file) blocked seats)))
-          ∙ ap (λ (x : SeatRecord). take i (run_records file blocked seats) ++ x ∷ []) (run_at (decode file) blocked seats i (omega arith) ∙ sym is)
-
-      pub counting_more : {out' table' : List ℕ} → out' ≡ splice out (record_size * i) (record_bytes r) → table' ≡ seat_counted (decode file) r.polygon table
-          → Counting file blocked directions seats out₀ out' table' work total (i + 1)
-      counting_more w counted =
-          record {
-            recording = recording_more t.recording e h is w;
-            labels = t.labels;
-            total_is = t.total_is;
-            total_few = t.total_few;
-            table_is =
-                counted
-                ∙ ap (seat_counted (decode file) r.polygon) t.table_is
-                ∙ seat_sheet (decode file) (take i (run_records file blocked seats)) r aboard
-                ∙ ap (λ (l : List SeatRecord). counts_of (sheet_of (ship_labels (decode file)) l)) (sym next_records);
-          }
-
-module _ {file blocked : List ℕ} {directions : List ℤ} {seats out₀ out table work : List ℕ} {total i : ℕ}
-    (t : Counting file blocked directions seats out₀ out table work total i) where
-  pub counting_records : RecordsReady file blocked directions seats out
-  counting_records = t.recording.ready
+module _ {file blocked seats out₀ out table work : List ℕ} {i : ℕ} (t : Counting file blocked seats out₀ out table work i) where
+  pub counting_room : RecordsRoom seats out
+  counting_room = recording_room t.recording
 
   pub counting_long : length out ≡ length out₀
   counting_long = recording_long t.recording
 
-  pub counting_wide : {table₀ : List ℕ} → CountsReady file blocked directions seats out₀ table₀ work → length table ≡ length table₀
+  pub counting_wide : {table₀ : List ℕ} → CountsReady file seats out₀ table₀ work → length table ≡ length table₀
   counting_wide ready =
       let none = sheet_of (ship_labels (decode file)) [] in
       let some = sheet_of (ship_labels (decode file)) (take i (run_records file blocked seats)) in
       rw (t.table_is, ready.none)
       (omega (arith, length_counts none, length_counts some, sheet_length_lem (decode file) [], sheet_length_lem (decode file) (take i (run_records file blocked seats))))
 
-pub ruleset counting = (counting_file, counting_all, counting_none, counting_there, counting_ready, counting_more, counting_records, counting_long, counting_wide)
+  module _ {n : ℕ} (e : n ≡ seat_count seats) where
+    pub counting_none : n ≤ i → CountsPut file blocked seats out₀ out table
+    counting_none h =
+        record {
+          records = recording_none t.recording e h;
+          sheet = t.table_is ∙ ap (λ (l : List SeatRecord). counts_of (sheet_of (ship_labels (decode file)) l))
+              (take_all i (run_records file blocked seats) (omega (arith, run_length (decode file) blocked seats)));
+        }
+
+    module _ (h : i < n) where
+      pub counting_there : i < seat_count seats
+      counting_there = omega arith
+
+      taken : length (take i (run_records file blocked seats)) ≡ i
+      taken = length-take-le i (run_records file blocked seats) (omega (arith, run_length (decode file) blocked seats))
+
+      module _ {directions : List ℤ} (ready : RunReady file blocked directions seats) {r : SeatRecord} (is : r ≡ record_of_seat (decode file) blocked seats i) where
+        aboard : Aboard (decode file) r.polygon
+        aboard = rw is (record_aboard file blocked seats ready.passed i (omega arith))
+
+        pub counting_ready : {own : List ℕ} → own ≡ file → length seats < 2 ^ 64 → CountReady (decode own) r.polygon table work
+        counting_ready same long =
+            let few = sheet_few (ship_labels (decode file)) (take i (run_records file blocked seats)) in
+            rw same
+            (record {
+              aboard = aboard;
+              tallied =
+                  record {
+                    counts = sheet_of (ship_labels (decode file)) (take i (run_records file blocked seats));
+                    bytes = t.table_is;
+                    long = sheet_length_lem (decode file) (take i (run_records file blocked seats));
+                    fits = λ k. omega (arith, few k, taken);
+                  };
+              labels = t.labels;
+            })
+
+        next_records : take (i + 1) (run_records file blocked seats) ≡ take i (run_records file blocked seats) ++ r ∷ []
+        next_records =
+            rw add-one (take-suc (run_records file blocked seats) i no_record (omega (arith, run_length (decode file) blocked seats)))
+            ∙ ap (λ (x : SeatRecord). take i (run_records file blocked seats) ++ x ∷ []) (run_at (decode file) blocked seats i (omega arith) ∙ sym is)
+
+        pub counting_more : {own out' table' : List ℕ} → own ≡ file → out' ≡ splice out (record_size * i) (record_bytes r)
+            → table' ≡ seat_counted (decode own) r.polygon table → Counting file blocked seats out₀ out' table' work (i + 1)
+        counting_more same w counted =
+            record {
+              recording = recording_more t.recording e h is w;
+              labels = t.labels;
+              table_is =
+                  (rw same at counted)
+                  ∙ ap (seat_counted (decode file) r.polygon) t.table_is
+                  ∙ seat_sheet (decode file) (take i (run_records file blocked seats)) r aboard
+                  ∙ ap (λ (l : List SeatRecord). counts_of (sheet_of (ship_labels (decode file)) l)) (sym next_records);
+            }
+
+pub ruleset counting = (counting_all, counting_none, counting_there, counting_ready, counting_more, counting_room, counting_long, counting_wide)

@@ -16,20 +16,21 @@ use Rattle.words.proofs.Splice.{splice_splice, splice_nil, length_splice}
 use Rattle.words.proofs.Writing.{joined_append}
 use Rattle.words.proofs.Numbers.{length_words, splice_front, words_read}
 use Rattle.answers.specs.Checks.{ask, after, check_each, Check}
-use Rattle.answers.proofs.Asking.{asking, said_no, said_yes, asked_yes, each_passed}
-use Rattle.std.specs.Prelude.{Ok, Err}
+use Rattle.answers.proofs.Asking.{said_no, said_yes, asked_yes, each_passed}
+use Rattle.std.specs.Prelude.{Result, Ok, Err}
+use Rattle.answers.specs.declared.Refusal.{Refusal}
+use Rattle.decks.specs.Opened.{opened}
+use Rattle.decks.proofs.Opening.{opened_err, opened_ok}
 use Rattle.answers.specs.declared.Refusal.TheVariants.{NoSuchNeighbour}
 use Rattle.ship.specs.Layout.{number_size, decks_in}
 use Rattle.ship.specs.Model.{Deck, Ship, deck_of, polygons_before, polygon_total}
 use Rattle.ship.specs.Decode.{decode}
-use Rattle.ship.specs.Questions.{first_no}
 use Rattle.ship.specs.Within.{DeckWithin}
 use Rattle.ship.proofs.ModelFacts.{decks_length}
 use Rattle.islands.specs.Islands.{polygon_count, deck_labels, question19}
 use Rattle.islands.specs.Walk.{LabelReady, LabelsPut}
 use Rattle.islands.proofs.IslandsCall.{labels_many}
 use Rattle.seat_run.specs.Run.{run_check}
-use Rattle.seat_run.proofs.SeatAsks.{run_yes}
 use Rattle.loads.specs.Sheet.{ship_labels, island_place, polygon_entry, sheet_length}
 use Rattle.loads.specs.Loads.{count_size, labels_check, loads_check}
 use Rattle.loads.specs.Counting.{all_labels, LabelsIn, DeckReady, DeckLabelled, LabelsReady, LabelsLeft}
@@ -63,14 +64,23 @@ module _ (file : List ℕ) {inside : Bool} (said : inside ≡ every (λ d. quest
 pub ruleset label_asks = (labels_no, labels_yes)
 
 -- ---- `loads_check`
-pub loads_is : (file blocked seats : List ℕ) {v : Check} → v ≡ after (run_check file blocked seats) (labels_check (decode file)) → v ≡ loads_check file blocked seats
-unfolding loads_check
-loads_is file blocked seats e = e
+module _ (file blocked seats : List ℕ) {r : Result (List ℕ) Refusal} (asked : r ≡ opened (run_check file blocked seats) file) where
+  pub loads_no : {refusal : Refusal} → r ≡ Err refusal → Err refusal ≡ opened (loads_check file blocked seats) file
+  unfolding loads_check
+  loads_no e = rw (opened_err (run_check file blocked seats) file (sym asked ∙ e))
 
-pub loads_file : (file blocked seats : List ℕ) {r : Check} → r ≡ run_check file blocked seats → r ≡ Ok tt → first_no file ≡ Ok tt
-loads_file file blocked seats asked passed = (run_yes file blocked seats (sym asked ∙ passed)).file_passed
+  module _ {ship : List ℕ} (opens : r ≡ Ok ship) {labels : Check} (said : labels ≡ labels_check (decode ship)) where
+    last_asked : opened (loads_check file blocked seats) file ≡ opened labels ship
+    unfolding loads_check
+    last_asked = let o = opened_ok (run_check file blocked seats) file (sym asked ∙ opens) in rw (o.0, said, o.1)
 
-pub ruleset Load-asks = (asking, loads_is, loads_file)
+    pub loads_19 : {refusal : Refusal} → labels ≡ Err refusal → Err refusal ≡ opened (loads_check file blocked seats) file
+    loads_19 e = sym (last_asked ∙ ap (λ (v : Check). opened v ship) e)
+
+    pub loads_yes : labels ≡ Ok tt → Ok ship ≡ opened (loads_check file blocked seats) file
+    loads_yes e = sym (last_asked ∙ ap (λ (v : Check). opened v ship) e)
+
+pub ruleset Load-asks = (loads_no, loads_19, loads_yes)
 
 -- ---- `label_deck`
 -- a list put at the front of what is lent from a position on
@@ -208,10 +218,9 @@ module _ {file work₀ table work : List ℕ} {at d decks : ℕ} (t : Labelling 
   from_long : length (labels_from file d) ≡ polygon_count here + length (labels_from file (d + 1))
   from_long = ap length from_here ∙ length-append (deck_labels here) (labels_from file (d + 1)) ∙ rw (labels_many here)
 
-  pub labelling_ready : first_no file ≡ Ok tt → DeckReady file d at table work
-  labelling_ready passed =
+  pub labelling_ready : DeckReady file d at table work
+  labelling_ready =
       record {
-        passed = passed;
         there = omega arith;
         yes19 = (asked_yes (question19 here) NoSuchNeighbour (Ok tt) (each_passed (check19 file) (decks_in file) (checked_decks file t.yes19) d (omega arith))).0;
         wide = rw (t.zeros, length-replicate) (omega (arith, t.left, from_long));

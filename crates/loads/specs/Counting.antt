@@ -1,5 +1,5 @@
 -- What counting a seat does to the table, and what the functions that count need and leave.
-use Rattle.std.specs.Prelude.{ℕ, ◌+◌, ◌*◌, ◌^◌, ◌≤◌, ◌<◌, ◌≡◌, Bool, true, cond, ◌&&◌, ◌⊎◌, List, [], ◌++◌, eqb, ℤ, length, get_or, drop, replicate, Ok}
+use Rattle.std.specs.Prelude.{ℕ, ◌+◌, ◌*◌, ◌^◌, ◌≤◌, ◌<◌, ◌≡◌, Bool, true, cond, ◌&&◌, ◌⊎◌, List, [], ◌++◌, eqb, length, get_or, drop, replicate, Ok}
 use Rattle.words.specs.Bytes.{all_ones, words_of, counts_of, count_at, splice, put_u64}
 use Rattle.words.specs.Rows.{collect_all}
 use Rattle.answers.specs.Questions.{question20}
@@ -8,12 +8,10 @@ use Rattle.ship.specs.Layout.{number_size, decks_in}
 use Rattle.ship.specs.Model.{Ship, deck_of, polygon_total}
 use Rattle.ship.specs.Packed.{packed_deck, packed_polygon}
 use Rattle.ship.specs.Decode.{decode}
-use Rattle.ship.specs.Questions.{first_no}
 use Rattle.islands.specs.Islands.{polygon_count, deck_labels, question19}
-use Rattle.seat_run.specs.SeatFile.{seat_count}
-use Rattle.seat_run.specs.Run.{RecordsReady, RecordsPut}
+use Rattle.seat_run.specs.Run.{RecordsRoom, RecordsPut}
 use Rattle.loads.specs.Sheet.{ship_labels, island_place, sheet_of, polygon_entry, island_entry, deck_entry, unplaced_entry, sheet_length}
-use Rattle.loads.specs.Loads.{count_size, labels_check, loads_check, loads_work, sheet_bytes}
+use Rattle.loads.specs.Loads.{count_size, labels_check, loads_work, sheet_bytes}
 
 -- ---- one count
 -- the bytes are n counts, and so many more can be added to each
@@ -45,11 +43,13 @@ Aboard ship polygon =
 -- one more at its polygon, at its island's place, and at its deck; or at the unplaced
 unfoldable pub counted_at : Ship → ℕ → ℕ → List ℕ → List ℕ
 counted_at ship d k table =
-    one_more (one_more (one_more table (polygon_entry ship d k)) (island_entry ship d (island_place (ship_labels ship) d k))) (deck_entry ship d)
+    one_more (one_more (one_more table (polygon_entry ship d k)) (island_entry ship d (island_place (ship_labels ship) d k)))
+    (deck_entry ship d)
 
 unfoldable pub seat_counted : Ship → ℕ → List ℕ → List ℕ
 seat_counted ship polygon table =
-    cond (eqb polygon all_ones) (one_more table (unplaced_entry ship)) (counted_at ship (packed_deck polygon) (packed_polygon polygon) table)
+    cond (eqb polygon all_ones) (one_more table (unplaced_entry ship))
+    (counted_at ship (packed_deck polygon) (packed_polygon polygon) table)
 
 -- ---- the labels
 -- those of all decks, decks rising, at the front of the work
@@ -61,7 +61,6 @@ LabelsIn ship work = (rest : List ℕ) × (work ≡ words_of (all_labels ship) +
 
 -- of one deck
 pub record DeckReady (file : List ℕ) (d at : ℕ) (table work : List ℕ) : Type 0 where
-  pub passed : first_no file ≡ Ok tt
   pub there : d < decks_in file
   pub yes19 : question19 (deck_of (decode file) d) ≡ true
   pub wide : number_size * polygon_count (deck_of (decode file) d) ≤ length table
@@ -74,7 +73,6 @@ pub record DeckLabelled (file : List ℕ) (d at : ℕ) (table table' work work' 
 
 -- of all
 pub record LabelsReady (file table work : List ℕ) : Type 0 where
-  pub passed : first_no file ≡ Ok tt
   pub yes19 : labels_check (decode file) ≡ Ok tt
   pub table_long : length table ≡ count_size * sheet_length (decode file)
   pub wide : loads_work file ≤ length work
@@ -84,27 +82,20 @@ pub record LabelsLeft (file table table' work work' : List ℕ) : Type 0 where
   pub work_is : work' ≡ words_of (all_labels (decode file)) ++ drop (number_size * polygon_total (decode file)) work
 
 -- ---- what counting a seat needs
-pub record PlacedReady (file : List ℕ) (d k total : ℕ) (table work : List ℕ) : Type 0 where
-  pub passed : first_no file ≡ Ok tt
-  pub deck_there : d < length (decode file).decks
-  pub polygon_there : k < polygon_count (deck_of (decode file) d)
-  pub total_is : total ≡ polygon_total (decode file)
-  pub total_few : total < 2 ^ 32
-  pub tallied : Tallied table (sheet_length (decode file)) 3
-  pub labels : LabelsIn (decode file) work
+pub record PlacedReady (ship : Ship) (d k : ℕ) (table work : List ℕ) : Type 0 where
+  pub deck_there : d < length ship.decks
+  pub polygon_there : k < polygon_count (deck_of ship d)
+  pub tallied : Tallied table (sheet_length ship) 3
+  pub labels : LabelsIn ship work
 
-pub record CountReady (file : List ℕ) (polygon total : ℕ) (table work : List ℕ) : Type 0 where
-  pub passed : first_no file ≡ Ok tt
-  pub aboard : Aboard (decode file) polygon
-  pub total_is : total ≡ polygon_total (decode file)
-  pub total_few : total < 2 ^ 32
-  pub tallied : Tallied table (sheet_length (decode file)) 3
-  pub labels : LabelsIn (decode file) work
+pub record CountReady (ship : Ship) (polygon : ℕ) (table work : List ℕ) : Type 0 where
+  pub aboard : Aboard ship polygon
+  pub tallied : Tallied table (sheet_length ship) 3
+  pub labels : LabelsIn ship work
 
 -- ---- all seats
-pub record CountsReady (file blocked : List ℕ) (directions : List ℤ) (seats out table work : List ℕ) : Type 0 where
-  pub records_ready : RecordsReady file blocked directions seats out
-  pub yes19 : labels_check (decode file) ≡ Ok tt
+pub record CountsReady (file seats out table work : List ℕ) : Type 0 where
+  pub room : RecordsRoom seats out
   pub none : table ≡ counts_of (sheet_of (ship_labels (decode file)) [])
   pub labels : LabelsIn (decode file) work
 
@@ -113,9 +104,9 @@ pub record CountsPut (file blocked seats out out' table' : List ℕ) : Type 0 wh
   pub sheet : table' ≡ sheet_bytes file blocked seats
 
 -- ---- labels, records and counts, in a table as long as the sheet
-pub record SheetReady (file blocked seats out table work : List ℕ) : Type 0 where
-  pub passed : loads_check file blocked seats ≡ Ok tt
-  pub room : record_size * seat_count seats ≤ length out
+pub record SheetReady (file seats out table work : List ℕ) : Type 0 where
+  pub yes19 : labels_check (decode file) ≡ Ok tt
+  pub room : RecordsRoom seats out
   pub table_long : length table ≡ count_size * sheet_length (decode file)
   pub wide : loads_work file ≤ length work
 
@@ -124,9 +115,9 @@ pub record SheetPut (file blocked seats out out' table' work work' : List ℕ) :
   pub zeros : work' ≡ replicate (length work) 0
 
 -- ---- the same at the front of the table that is lent
-pub record TableReady (file blocked seats out table work : List ℕ) : Type 0 where
-  pub passed : loads_check file blocked seats ≡ Ok tt
-  pub room : record_size * seat_count seats ≤ length out
+pub record TableReady (file seats out table work : List ℕ) : Type 0 where
+  pub yes19 : labels_check (decode file) ≡ Ok tt
+  pub room : RecordsRoom seats out
   pub table_room : count_size * sheet_length (decode file) ≤ length table
   pub wide : loads_work file ≤ length work
 

@@ -56,7 +56,7 @@ pub record AllJoin (file blocked : List ℕ) (n : ℕ) (out table : List ℕ) (p
 
 -- ---- What holds of a run on these bytes that answered so and left these records and this table. A refused run says nothing of portions.
 abbrev pub Portioned : List ℕ → List ℕ → List ℕ → Answer → List ℕ → List ℕ → Type 0
-Portioned file blocked seats (Err number) out table = Unit {0}
+Portioned file blocked seats (Err refusal) out table = Unit {0}
 Portioned file blocked seats (Ok n) out table =
     ((front back : Lent) → front.seats ++ back.seats ≡ seats → Portion file front → Portion file back
     → Joins file blocked n out table front back)

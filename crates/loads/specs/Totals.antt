@@ -25,7 +25,7 @@ pub record Totals (ship : Ship) (n : ℕ) (table : List ℕ) : Type 0 where
 
 -- What holds of a run on these bytes that answered so and left these records and this table. A refused run says nothing of seats.
 abbrev pub Totalled : List ℕ → Answer → List ℕ → List ℕ → Type 0
-Totalled file (Err number) out table = Unit {0}
+Totalled file (Err refusal) out table = Unit {0}
 Totalled file (Ok n) out table =
     Totals (decode file) n table
     × (take (count_size * sheet_length (decode file)) table ≡ counts_of (from_back (ship_labels (decode file)) (records_in out n)))

@@ -4,11 +4,12 @@ use Rattle.loads.proofs.LabelLoop.{Load-asks}
 use Rattle.answers.proofs.Asking.{handed_on}
 use Rattle.loads.proofs.loads_check.Goals as goal
 
-pub returns-in_err-run_check : goal.returns-in_err-run_check
-returns-in_err-run_check c = rw (handed_on c.from_residual.ensures.1) (search (c.in_err-run_check.was, Load-asks, rules))
+pub returns-in_err-ship : goal.returns-in_err-ship
+returns-in_err-ship c = rw (handed_on c.from_residual.ensures.1) (search (c.in_err-ship.was, Load-asks, rules))
 
-pub labels_check-requires : goal.labels_check-requires
-labels_check-requires c = search (c.in_ok-run_check.was, Load-asks, rules)
+pub returns-in_err-labels_check : goal.returns-in_err-labels_check
+returns-in_err-labels_check c =
+    rw (handed_on c.from_residual-in_err-labels_check.ensures.1) (search (c.in_ok-ship.was, c.in_err-labels_check.was, Load-asks, rules))
 
 pub returns : goal.returns
-returns c = search (c.in_ok-run_check.was, Load-asks, rules)
+returns c = search (c.in_ok-ship.was, c.in_ok-labels_check.was, Load-asks, rules)

@@ -9,5 +9,6 @@ use Rattle.loads.proofs.put_counts.Given as goal
 
 abbrev pub invariant-seats : goal.invariant-seats
 invariant-seats l =
-    (length l.seats < 2 ^ 64) × ((l.count ≡ seat_count l.seats)
-    × (Lent l.initial.kept l.kept l.initial.near l.near × Counting l.file l.blocked l.directions l.seats l.initial.out l.out l.table l.work l.total l.seat))
+    (length l.run.seats.now < 2 ^ 64) × ((l.count ≡ seat_count l.run.seats.now)
+    × (Lent l.initial.kept l.kept l.initial.near l.near
+    × Counting l.run.ship.now l.run.blocked.now l.run.seats.now l.initial.out l.out l.table l.work l.seat))

@@ -3,4 +3,4 @@ use Rattle.loads.proofs.LabelLoop.{Labelling}
 use Rattle.loads.proofs.put_labels.Given as goal
 
 abbrev pub invariant-decks : goal.invariant-decks
-invariant-decks l = Labelling l.file l.initial.work l.table l.work l.at l.d
+invariant-decks l = Labelling l.ship l.initial.work l.table l.work l.at l.d
