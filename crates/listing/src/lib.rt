@@ -1,4 +1,5 @@
-// The text of `seatlist` from the bytes that it reads (document 01, section 7).
+// The text of `seatlist` from the bytes that it reads (document 01, section 7). Text and records stand in arrays of the most that an input
+// can ask for, with the length of what is used beside them: a run writes into what it is lent, and nothing is allocated.
 #![tactic(auto)]
 
 ghost use Rattle.std.specs.Prelude.{◌≡◌, ◌*◌, ◌≤◌, length, Ok};
