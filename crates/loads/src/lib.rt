@@ -8,7 +8,6 @@ ghost use Rattle.ship.specs.Layout.{decks_in};
 ghost use Rattle.ship.specs.Model.{deck_of, polygon_total};
 ghost use Rattle.islands.specs.Islands.{question19};
 ghost use Rattle.ship.specs.Decode.{decode};
-ghost use Rattle.keeping.specs.Lists.{ListsRoom};
 ghost use Rattle.decks.specs.Opened.{opened};
 ghost use Rattle.seat_run.specs.Survey.{Surveyed};
 ghost use Rattle.seat_run.specs.Blocked.{BlockedUnplaced};
@@ -24,7 +23,7 @@ use answers::{Answer, Check, Refusal};
 use decks::Ship;
 use keeping::{KEPT_SIZE, NEAR_SIZE};
 use records::RECORD_SIZE;
-use seat_run::{SEAT_SIZE, SeatRun};
+use seat_run::{Lists, SEAT_SIZE, SeatRun};
 use ship::NUMBER_SIZE;
 
 pub const COUNT_SIZE: usize = 8;
@@ -166,17 +165,16 @@ fn put_counts(
     out: &mut [u8],
     table: &mut [u8],
     work: &[u8],
-    kept: &mut [u32],
-    near: &mut [u32],
+    lists: &mut Lists<'_>,
 )
-    requires { CountsReady run.now.ship.now run.now.seats.now out.old table.old work.now × ListsRoom kept.old }
+    requires { CountsReady run.now.ship.now run.now.seats.now out.old table.old work.now }
     ensures { CountsPut run.now.ship.now run.now.blocked.now run.now.seats.now
         out.old out.new table.new }
 {
     let places = Places::of(run.ship);
     let count = run.seats.len() / SEAT_SIZE;
     'seats: for seat in 0..count {
-        let record = seat_run::put_seat(run, seat, out, kept, near);
+        let record = seat_run::put_seat(run, seat, out, lists);
         places.count_seat(record.polygon, table, work);
     }
 }
@@ -190,7 +188,11 @@ fn put_sheet(run: &SeatRun<'_>, out: &mut [u8], table: &mut [u8], work: &mut [u8
     put_labels(run.ship, table, work);
     let mut kept = [0u32; KEPT_SIZE];
     let mut near = [0u32; NEAR_SIZE];
-    put_counts(run, out, table, work, &mut kept, &mut near);
+    let mut lists = Lists {
+        kept: &mut kept,
+        near: &mut near,
+    };
+    put_counts(run, out, table, work, &mut lists);
     words::clear(work);
 }
 

@@ -141,46 +141,49 @@ pub struct SeatRun<'a> {
     pub ghost ready: { RunReady ship.now blocked.now table.now seats.now } by { run_ready_prop ship.now blocked.now table.now seats.now },
 }
 
+// The arrays that a run is lent: for the decks' kept lists, and for a step's own.
+#[derive(Drop)]
+pub struct Lists<'a> {
+    pub kept: &'a mut [u32],
+    pub near: &'a mut [u32],
+    pub ghost room: { ListsRoom kept.now },
+}
+
 // Seat i is placed, and its record written at its place in the output.
-pub fn put_seat(
-    run: &SeatRun<'_>,
-    i: usize,
-    out: &mut [u8],
-    kept: &mut [u32],
-    near: &mut [u32],
-) -> SeatRecord
-    requires { RecordsRoom run.now.seats.now out.old × ((i < seat_count run.now.seats.now) × ListsRoom kept.old) }
+pub fn put_seat(run: &SeatRun<'_>, i: usize, out: &mut [u8], lists: &mut Lists<'_>) -> SeatRecord
+    requires { RecordsRoom run.now.seats.now out.old × (i < seat_count run.now.seats.now) }
     ensures { (result ≡ record_of_seat (decode run.now.ship.now) run.now.blocked.now run.now.seats.now i)
         × (out.new ≡ splice out.old (record_size * i) (record_bytes result)) }
 {
     let seat = seat_at(run.seats, i);
-    walking::sift_decks(run.ship, run.blocked, seat, kept);
+    walking::sift_decks(run.ship, run.blocked, seat, lists.kept);
     let search = Search {
         ship: run.ship,
         blocked: run.blocked,
         table: run.table,
         seat,
-        kept,
+        kept: lists.kept,
     };
-    let record = placing::place_seat(&search, near);
+    let record = placing::place_seat(&search, lists.near);
     records::put_record(out, i, record);
     record
 }
 
 // One record a seat, in list order.
-#[tactic(auto, using(crate::proofs::RunLoop::recording, keeping::proofs::ListLaws::lent))]
-fn put_records(run: &SeatRun<'_>, out: &mut [u8], kept: &mut [u32], near: &mut [u32])
-    requires { RecordsRoom run.now.seats.now out.old × ListsRoom kept.old }
+#[tactic(auto, using(crate::proofs::RunLoop::recording))]
+fn put_records(run: &SeatRun<'_>, out: &mut [u8], lists: &mut Lists<'_>)
+    requires { RecordsRoom run.now.seats.now out.old }
     ensures { RecordsPut run.now.ship.now run.now.blocked.now run.now.seats.now
         out.old out.new }
 {
     let count = run.seats.len() / SEAT_SIZE;
     'seats: for seat in 0..count {
-        put_seat(run, seat, out, kept, near);
+        put_seat(run, seat, out, lists);
     }
 }
 
-// The run, over two arrays of any length that it is lent for kept lists. They alter no answer.
+// The run, over two arrays of any length that it is lent for kept lists. They alter no answer. What it promises stands here and at `run`,
+// since a caller learns no more than the function that it calls says.
 pub fn run_over(
     file: &[u8],
     blocked: &[u8],
@@ -209,7 +212,8 @@ pub fn run_over(
         table: &table,
         seats,
     };
-    put_records(&run, out, kept, near);
+    let mut lists = Lists { kept, near };
+    put_records(&run, out, &mut lists);
     Ok(count)
 }
 
