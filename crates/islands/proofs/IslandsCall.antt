@@ -40,21 +40,17 @@ module _ (file : List ℕ) (deck : ℕ) {r : Result (List ℕ) Refusal} (asked :
     unfolding islands_check question17_islands
     deck_refused l = rw (open_yes (first_no file) file asked passed, le-ltb deck (decks_in file) (rw (← open_same (first_no file) file asked passed, ← all) l))
 
-    module _ (l : deck < decks) where
-      pub deck_there : deck < decks_in ship
-      deck_there = omega arith
+    module _ (l : deck < decks) {it : Deck} (is : it ≡ deck_of (decode ship) deck) {inside : Bool} (said : inside ≡ question19 it) where
+      entries_asked : islands_check file deck ≡ ask inside NoSuchNeighbour (Ok tt)
+      unfolding islands_check question17_islands
+      entries_asked =
+          rw (open_yes (first_no file) file asked passed, lt-ltb deck (decks_in file) (rw (← open_same (first_no file) file asked passed, ← all) l), said, is, open_same (first_no file) file asked passed)
 
-      module _ {it : Deck} (is : it ≡ deck_of (decode ship) deck) {inside : Bool} (said : inside ≡ question19 it) where
-        entries_asked : islands_check file deck ≡ ask inside NoSuchNeighbour (Ok tt)
-        unfolding islands_check question17_islands
-        entries_asked =
-            rw (open_yes (first_no file) file asked passed, lt-ltb deck (decks_in file) (rw (← open_same (first_no file) file asked passed, ← all) l), said, is, open_same (first_no file) file asked passed)
+      pub entries_refused : inside ≡ false → islands_check file deck ≡ Err NoSuchNeighbour
+      entries_refused e = entries_asked ∙ rw e
 
-        pub entries_refused : inside ≡ false → islands_check file deck ≡ Err NoSuchNeighbour
-        entries_refused e = entries_asked ∙ rw e
-
-        pub islands_passed : inside ≡ true → islands_check file deck ≡ Ok tt
-        islands_passed e = entries_asked ∙ rw e
+      pub islands_passed : inside ≡ true → islands_check file deck ≡ Ok tt
+      islands_passed e = entries_asked ∙ rw e
 
 -- ---- the questions passed
 record IslandsYes (file : List ℕ) (deck : ℕ) : Type 0 where

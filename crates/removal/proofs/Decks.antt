@@ -85,9 +85,6 @@ module _ {which : Stitches} {s : List ℕ} {d : ℕ} {out : List ℕ} {at : ℕ}
       rest_ready = record { deck = deck; room = omega (arith, room, n_long, p.next_is, q.next_is) }
 
       module _ {out' : List ℕ} {next : ℕ} (r : Put mid2 m (rest_of s b) out' next) where
-        pub deck_long : length out' ≡ length out
-        deck_long = put_long r (omega (arith, room, n_long, p.next_is, q.next_is)) ∙ n_long
-
         pub deck_put : Put out at (new_blocks which s d (blocks_at s d)) out' next
         unfolding new_blocks
         deck_put =

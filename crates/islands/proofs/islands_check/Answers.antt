@@ -1,4 +1,5 @@
 -- `islands_check` meets its contract.
+use borrow.Author.Rules.{rules}
 use Rattle.answers.proofs.Asking.{handed_on}
 use Rattle.decks.proofs.Opening.{opens_err, opens_ok, open_same}
 use Rattle.islands.proofs.IslandsCall.{file_refused, deck_refused, entries_refused, islands_passed}
@@ -10,15 +11,15 @@ returns-in_err-ship c =
 
 pub returns-then-d-deck_count : goal.returns-then-d-deck_count
 returns-then-d-deck_count c =
-    opens_err _ _ (deck_refused _ _ c.open.ensures c.in_ok-ship.was c.deck_count.ensures.is.0 c.if-d-deck_count.true)
+    opens_err _ _ (deck_refused _ _ c.open.ensures c.in_ok-ship.was c.deck_count.ensures.is.0 (search rules))
 
 pub returns-then-not-entries_inside : goal.returns-then-not-entries_inside
 returns-then-not-entries_inside c =
     opens_err _ _
-    (entries_refused _ _ c.open.ensures c.in_ok-ship.was c.deck_count.ensures.is.0 c.if-d-deck_count.false c.deck.ensures.is c.entries_inside.ensures c.if-not-entries_inside.true)
+    (entries_refused _ _ c.open.ensures c.in_ok-ship.was c.deck_count.ensures.is.0 (search rules) c.deck.ensures.is c.entries_inside.ensures c.if-not-entries_inside.true)
 
 pub returns : goal.returns
 returns c =
     opens_ok _ _
-    (islands_passed _ _ c.open.ensures c.in_ok-ship.was c.deck_count.ensures.is.0 c.if-d-deck_count.false c.deck.ensures.is c.entries_inside.ensures c.if-not-entries_inside.false)
+    (islands_passed _ _ c.open.ensures c.in_ok-ship.was c.deck_count.ensures.is.0 (search rules) c.deck.ensures.is c.entries_inside.ensures c.if-not-entries_inside.false)
     (open_same _ _ c.open.ensures c.in_ok-ship.was)

@@ -1,4 +1,5 @@
 -- `remove` meets its contract.
+use borrow.Author.Rules.{rules}
 use Rattle.answers.proofs.Asking.{handed_on}
 use Rattle.removal.proofs.Replies.{removal_refused, removal_short, file_ready, removal_written}
 use Rattle.removal.proofs.remove.Goals as goal
@@ -7,11 +8,11 @@ pub returns-in_err-ship : goal.returns-in_err-ship
 returns-in_err-ship c = rw (handed_on c.from_residual.ensures.1) (removal_refused _ _ c.open.ensures _ c.in_err-ship.was)
 
 pub returns-then-out-size : goal.returns-then-out-size
-returns-then-out-size c = removal_short _ _ c.open.ensures c.in_ok-ship.was _ c.new_size-size.ensures c.if-out-size.true
+returns-then-out-size c = removal_short _ _ c.open.ensures c.in_ok-ship.was _ c.new_size-size.ensures (search rules)
 
 pub put_file-requires : goal.put_file-requires
-put_file-requires c = file_ready _ _ c.open.ensures c.in_ok-ship.was _ c.new_size-size.ensures c.if-out-size.false
+put_file-requires c = file_ready _ _ c.open.ensures c.in_ok-ship.was _ c.new_size-size.ensures (search rules)
 
 pub returns : goal.returns
 returns c =
-    removal_written _ _ c.open.ensures c.in_ok-ship.was _ c.new_size-size.ensures c.if-out-size.false c.put_file.ensures
+    removal_written _ _ c.open.ensures c.in_ok-ship.was _ c.new_size-size.ensures (search rules) c.put_file.ensures
