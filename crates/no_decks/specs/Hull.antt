@@ -45,15 +45,19 @@ pub record NothingLaidOut (file : List ℕ) : Type 0 where
       → closest_point_reply file p deck blocked ≡ nothing (asked p blocked (names_none deck (Ok tt)))
   pub closest_towards : (p towards : Vec2) (deck : ℕ)
       → towards_reply file p towards deck
-      ≡ nothing (ask (question16 p) CallFloatOutOfRange (ask (question16 towards) CallFloatOutOfRange (names_none deck (ask (question22 p towards) NoDirection (Ok tt)))))
-  pub height : (p : Vec2) (polygon : ℕ) → height_reply file p polygon ≡ nothing (ask (question16 p) CallFloatOutOfRange (names_none polygon (Ok tt)))
+      ≡ nothing
+      (ask (question16 p) CallFloatOutOfRange
+      (ask (question16 towards) CallFloatOutOfRange (names_none deck (ask (question22 p towards) NoDirection (Ok tt)))))
+  pub height : (p : Vec2) (polygon : ℕ)
+      → height_reply file p polygon ≡ nothing (ask (question16 p) CallFloatOutOfRange (names_none polygon (Ok tt)))
   -- islands are of a named deck always
   pub islands : (deck : ℕ) → islands_check file deck ≡ Err NoSuchDeck
   -- where 17 is not asked, nothing is found, as on any absent deck; a polygon already named comes back
   pub location : (p : Vec2) (deck : ℕ) → location_of file p deck ≡ answer_for (ask (question16 p) CallFloatOutOfRange (Ok tt)) all_ones
   pub layer : (p : Vec2) (deck : ℕ) → layer_reply file p deck ≡ nothing (ask (question16 p) CallFloatOutOfRange (Ok tt))
   pub candidates : (p : Vec2) (deck polygon : ℕ) (blocked : List ℕ)
-      → candidates_reply file p deck polygon blocked ≡ reply_of (asked p blocked (Ok tt)) bytes4 (cond (eqb polygon all_ones) [] (polygon ∷ []))
+      → candidates_reply file p deck polygon blocked
+      ≡ reply_of (asked p blocked (Ok tt)) bytes4 (cond (eqb polygon all_ones) [] (polygon ∷ []))
   pub work_of_candidates : candidates_work file ≡ 0
   -- 'there are no stitch points', and a removal leaves the file as it is
   pub stitch_points : stitch_points_reply file ≡ nothing (Ok tt)
