@@ -19,8 +19,8 @@ LINES = {
     "1 all ones for none": r"0xFFFF_FFFF\b(?!_)",
     "3 a loop whose index is counted by hand": r"^\s*(?:'\w+: )?(?:while|loop)\b",
     "4 an arm that turns a variant into a bool": r"=> (?:true|false),",
-    "5 'the deck passed' in a contract": r"DeckOfPassed file\.now",
-    "5 'the file passed' in a contract": r"first_no file\.now ≡",
+    "5 'the deck passed' asked of a caller": r"^(?!.*(?:ensures|invariant)).*DeckOfPassed [\w.]+\.now",
+    "5 'the file passed' asked of a caller": r"^(?!.*(?:ensures|invariant)).*first_no [\w.]+\.now ≡",
     "5 'room for the lists' in a contract": r"\bListsRoom\b.*\}|ListsRoom \w+\.\w+",
     "5 'ready for a walk' in a contract": r"\bWalkReady\b",
 }
@@ -29,10 +29,12 @@ LINES = {
 BY_HAND = r"(?:same_\w+|min|max|abs|add|sub|copy|copy_part|clear|swap|choice_of|code|packed\w*|height_words|glyph|digit|flag|is_left|is_edge|put_hex|put_decimal)"
 
 # Parameters that stand together.
+SHIP = {"file", "ship"}
+
 GROUPS = {
-    "5 file and blocks": lambda names, types: "file" in names and any("Blocks" in t for t in types),
-    "5 file, blocked, table and seat": lambda names, types: {"file", "blocked", "table", "seat"} <= names,
-    "5 file, table and point": lambda names, types: {"file", "table", "p"} <= names,
+    "5 file and blocks": lambda names, types: bool(SHIP & names) and any("Blocks" in t for t in types),
+    "5 file, blocked, table and seat": lambda names, types: bool(SHIP & names) and {"blocked", "table", "seat"} <= names,
+    "5 file, table and point": lambda names, types: bool(SHIP & names) and {"table", "p"} <= names,
     "5 an array and the list in it": lambda names, types: {"array", "kept"} <= names or {"from", "source"} <= names,
     "5 which stitches and which deck": lambda names, types: {"which", "d"} <= names,
     "5 a step and its count": lambda names, types: {"s", "count"} <= names,

@@ -30,7 +30,8 @@ question16 p = in_size p.x && in_size p.y
 -- the questions of a query before 20
 unfoldable pub query_check : List ℕ → Vec2 → ℕ → List ℕ → Check
 query_check file p deck blocked =
-    after (first_no file) (ask (question14 blocked) WrongLength (ask (question16 p) CallFloatOutOfRange (ask (question17 (decks_in file) deck) NoSuchDeck (Ok tt))))
+    after (first_no file)
+    (ask (question14 blocked) WrongLength (ask (question16 p) CallFloatOutOfRange (ask (question17 (decks_in file) deck) NoSuchDeck (Ok tt))))
 
 -- a call asks as a seat without a wish
 abbrev pub asked_at : Vec2 → ℕ → Seat

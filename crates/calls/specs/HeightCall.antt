@@ -23,16 +23,19 @@ question17_height file polygon = eqb polygon all_ones || ltb (packed_deck polygo
 
 -- 18 polygon there? All ones passes.
 unfoldable pub question18 : List ℕ → ℕ → Bool
-question18 file polygon = eqb polygon all_ones || ltb (packed_polygon polygon) (length (deck_of (decode file) (packed_deck polygon)).polygons)
+question18 file polygon =
+    eqb polygon all_ones || ltb (packed_polygon polygon) (length (deck_of (decode file) (packed_deck polygon)).polygons)
 
 -- the questions of a height call before 20
 unfoldable pub height_check : List ℕ → Vec2 → ℕ → Check
 height_check file p polygon =
-    after (first_no file) (ask (question16 p) CallFloatOutOfRange (ask (question17_height file polygon) NoSuchDeck (ask (question18 file polygon) NoSuchPolygon (Ok tt))))
+    after (first_no file)
+    (ask (question16 p) CallFloatOutOfRange (ask (question17_height file polygon) NoSuchDeck (ask (question18 file polygon) NoSuchPolygon (Ok tt))))
 
 -- for all ones there is no height
 unfoldable pub height_call : List ℕ → Vec2 → ℕ → Height
-height_call file p polygon = cond (eqb polygon all_ones) None (height_on (deck_of (decode file) (packed_deck polygon)) (packed_polygon polygon) p)
+height_call file p polygon =
+    cond (eqb polygon all_ones) None (height_on (deck_of (decode file) (packed_deck polygon)) (packed_polygon polygon) p)
 
 -- one entry, the height's bits, or none
 abbrev pub height_entry : Height → List ℕ

@@ -1,4 +1,5 @@
 // The calls that answer one query: the closest points on the decks, and the height at a place (document 01, sections 5 and 6).
+// The output is memory that C lends, and an entry's place in it is its number: nothing is allocated.
 #![tactic(auto)]
 
 ghost use Rattle.std.specs.Prelude.{◌≡◌, ◌+◌, ◌*◌, ◌^◌, ◌≤◌, length};
@@ -135,7 +136,8 @@ pub fn get_closest_points_on_layers(
     put_counted(&step, out)
 }
 
-// The first of them, or none. It is what the record of such a seat begins with.
+// The first of them, or none. It is what the record of such a seat begins with. Both calls begin alike: the arrays are each call's own, and no function
+// below could hand them out.
 pub fn get_closest_point_on_layers(
     file: &[u8],
     p: Vec2,

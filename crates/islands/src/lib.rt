@@ -1,4 +1,5 @@
 // The label of each polygon of a deck: the least number that reaches it (document 01, section 8, `bake_islands_detection`).
+// Output and work are the caller's memory, as C lends it, so places in them are numbers: nothing is allocated.
 #![tactic(auto)]
 
 ghost use Rattle.std.specs.Prelude.{◌≡◌, ◌||◌, ◌++◌, ◌+◌, ◌*◌, ◌≤◌, ◌<◌, eqb, ltb, length, drop, replicate};

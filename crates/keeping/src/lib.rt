@@ -129,7 +129,8 @@ pub fn first_hit(
     }
 }
 
-// The first polygon from number k on that passes at q, which is sample i.
+// The first polygon from number k on that passes at q, which is sample i. `search::next_hit` is the same over all polygons: of who has no list no law of
+// a list is asked there.
 pub fn next_hit(deck: &Deck<'_>, q: Vec2, i: usize, k: usize, kept: Kept<'_>) -> Option<Hit>
     requires { KeptAt deck.now kept.numbers.now kept.rest q }
     ensures { result ≡ next_hit deck.now q i k }

@@ -1,4 +1,5 @@
-// The seat run with a load sheet beside the records (document 02, point 4).
+// The seat run with a load sheet beside the records (document 02, point 4). Table and work are
+// the caller's memory, as C lends it, so places in them are numbers: nothing is allocated.
 #![tactic(auto)]
 
 ghost use Rattle.std.specs.Prelude.{◌≡◌, ◌+◌, ◌*◌, ◌^◌, ◌≤◌, ◌<◌, length};

@@ -53,7 +53,8 @@ pub record NothingLaidOut (file : List ℕ) : Type 0 where
   -- islands are of a named deck always
   pub islands : (deck : ℕ) → islands_check file deck ≡ Err NoSuchDeck
   -- where 17 is not asked, nothing is found, as on any absent deck; a polygon already named comes back
-  pub location : (p : Vec2) (deck : ℕ) → location_of file p deck ≡ answer_for (ask (question16 p) CallFloatOutOfRange (Ok tt)) all_ones
+  pub location : (p : Vec2) (deck : ℕ)
+      → location_of file p deck ≡ answer_for (ask (question16 p) CallFloatOutOfRange (Ok tt)) all_ones
   pub layer : (p : Vec2) (deck : ℕ) → layer_reply file p deck ≡ nothing (ask (question16 p) CallFloatOutOfRange (Ok tt))
   pub candidates : (p : Vec2) (deck polygon : ℕ) (blocked : List ℕ)
       → candidates_reply file p deck polygon blocked

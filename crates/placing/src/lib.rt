@@ -95,7 +95,7 @@ fn take_step(search: &Search<'_>, s: usize, tried: usize, near: &mut [u32]) -> T
     }
 }
 
-// A height's kind, and its bits or 0.
+// A height's kind, and its bits or 0: two numbers of the record, which C reads, and so no type of their own.
 #[tactic(auto, using(crate::proofs::SeatRecords::heights))]
 fn height_words(height: Height) -> (u32, u32)
     requires { HeightWithin (2 ^ 121) height }

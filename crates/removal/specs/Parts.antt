@@ -5,7 +5,8 @@ use Rattle.ship.specs.declared.Blocks.{Blocks}
 use Rattle.ship.specs.Layout.{number_size, pair_size, vertex_size, first_list, decks_in, blocks_at, block_at, neighbour_extent}
 use Rattle.ship.specs.Questions.{DeckOfPassed}
 use Rattle.unstitched.specs.declared.Stitches.{Stitches}
-use Rattle.unstitched.specs.NewFile.{kept_from, new_blocks, block_lengths, new_file}
+use Rattle.unstitched.specs.declared.OldDeck.{OldDeck}
+use Rattle.unstitched.specs.NewFile.{kept_from, new_vertex, new_extent, new_v, new_n, new_blocks, block_lengths, new_file}
 
 -- ---- a part of the new file
 -- what a function needs that puts a part of deck b's blocks there
@@ -43,3 +44,25 @@ pub record LostInBlock (which : Stitches) (s : List ℕ) (j less : ℕ) : Type 0
 -- and so has N of deck d
 pub record LostInDeck (which : Stitches) (s : List ℕ) (d less : ℕ) : Type 0 where
   pub is : number_size * (blocks_at s d).neighbours ≡ number_size * length (kept_from which s d (blocks_at s d) 0 (blocks_at s d).neighbours) + less
+
+-- ---- the same of a deck of the old file and the rule by which it is written anew: V, N, vertex i and its list
+abbrev pub v_of : OldDeck → List ℕ
+v_of old = new_v old.rule.which old.file.now old.rule.deck old.blocks
+
+abbrev pub n_of : OldDeck → List ℕ
+n_of old = new_n old.rule.which old.file.now old.rule.deck old.blocks
+
+abbrev pub vertex_of : OldDeck → ℕ → List ℕ
+vertex_of old i = new_vertex old.rule.which old.file.now old.rule.deck old.blocks i
+
+abbrev pub extent_of : OldDeck → ℕ → List ℕ
+extent_of old i = new_extent old.rule.which old.file.now old.rule.deck old.blocks i
+
+abbrev pub OldReady : OldDeck → List ℕ → List ℕ → ℕ → Type 0
+OldReady old bytes out at = PartReady old.file.now old.blocks bytes out at
+
+abbrev pub OldListReady : OldDeck → ℕ → ℕ → List ℕ → ℕ → Type 0
+OldListReady old i start out at = ListReady old.rule.which old.file.now old.rule.deck old.blocks i start out at
+
+abbrev pub OldListPut : OldDeck → ℕ → List ℕ → List ℕ → ℕ → List ℕ → ℕ → Type 0
+OldListPut old i bytes out at out' next = ListPut old.rule.which old.file.now old.rule.deck old.blocks i bytes out at out' next

@@ -1,4 +1,5 @@
 // A ship file without its stitches, written anew (document 01, section 8, `remove_stitches` and `remove_stitches_to_layer`).
+// It is written part by part into memory that C lends, so a part is told where it begins: nothing is allocated.
 #![tactic(auto)]
 
 ghost use Rattle.std.specs.Prelude.{◌≡◌, ◌+◌, ◌*◌, ◌≤◌, ◌<◌, length};
@@ -7,7 +8,8 @@ ghost use Rattle.ship.specs.Layout.{header_size, blocks_per_deck, list_in_vertex
 ghost use Rattle.ship.specs.Questions.{first_no, DeckOfPassed};
 ghost use Rattle.unstitched.specs.declared.Stitches.TheVariants.{All, ToLayer};
 ghost use Rattle.unstitched.specs.NewFile.{new_vertex, new_v, new_n, new_blocks, new_table, new_file, RemovalReplied, RemovalSound, rest_of, all_blocks, new_extent};
-ghost use Rattle.removal.specs.Parts.{PartReady, DeckReady, FileReady, ListReady, ListPut, LostInBlock, LostInDeck};
+ghost use Rattle.removal.specs.Parts.{DeckReady, FileReady, LostInBlock, LostInDeck};
+ghost use Rattle.removal.specs.Parts.{v_of, n_of, vertex_of, extent_of, OldReady, OldListReady, OldListPut};
 
 use answers::{Answer, Refusal};
 use decks::Ship;
@@ -17,7 +19,8 @@ use ship::{
 };
 use unstitched::{OldDeck, Rule, Stitches};
 
-// The `size` bytes of the file from `from` on, put at `at`. Returns the position after them.
+// The `size` bytes of the file from `from` on, put at `at`. Returns the position after them. `copy_from_slice` in words::copy does it; this says where the
+// next part begins.
 fn copy_part(file: &[u8], from: usize, size: usize, at: usize, out: &mut [u8]) -> usize
     requires { (from + size ≤ length file.now) × (at + size ≤ length out.old) }
     ensures { Put out.old at (slice file.now from size) out.new result }
@@ -28,9 +31,8 @@ fn copy_part(file: &[u8], from: usize, size: usize, at: usize, out: &mut [u8]) -
 
 // What stays of N, from `at` on. Returns the position after it.
 fn put_neighbours(old: &OldDeck<'_>, at: usize, out: &mut [u8]) -> usize
-    requires { PartReady old.now.file.now old.now.blocks
-        (new_n old.now.rule.which old.now.file.now old.now.rule.deck old.now.blocks) out.old at }
-    ensures { Put out.old at (new_n old.now.rule.which old.now.file.now old.now.rule.deck old.now.blocks) out.new result }
+    requires { OldReady old.now (n_of old.now) out.old at }
+    ensures { Put out.old at (n_of old.now) out.new result }
 {
     let mut next = at;
     // A for: what is written moves on for those alone that stay.
@@ -47,9 +49,8 @@ fn put_neighbours(old: &OldDeck<'_>, at: usize, out: &mut [u8]) -> usize
 
 // Start and count of vertex i's list, which begins at `start` now. Returns where the next one's begins.
 fn put_list(old: &OldDeck<'_>, i: usize, start: usize, at: usize, out: &mut [u8]) -> usize
-    requires { ListReady old.now.rule.which old.now.file.now old.now.rule.deck old.now.blocks i start out.old at }
-    ensures { ListPut old.now.rule.which old.now.file.now old.now.rule.deck old.now.blocks i
-        (words_of (new_extent old.now.rule.which old.now.file.now old.now.rule.deck old.now.blocks i)) out.old at out.new result }
+    requires { OldListReady old.now i start out.old at }
+    ensures { OldListPut old.now i (words_of (extent_of old.now i)) out.old at out.new result }
 {
     let list = ship::extent_at(old.file, old.blocks.v + FIRST_LIST, VERTEX_SIZE, i);
     let count = old.kept_in(list.start, list.count);
@@ -60,9 +61,8 @@ fn put_list(old: &OldDeck<'_>, i: usize, start: usize, at: usize, out: &mut [u8]
 
 // Vertex i: x and y as they are, then its list. Returns where the next one's begins.
 fn put_vertex(old: &OldDeck<'_>, i: usize, start: usize, at: usize, out: &mut [u8]) -> usize
-    requires { ListReady old.now.rule.which old.now.file.now old.now.rule.deck old.now.blocks i start out.old (at + list_in_vertex) }
-    ensures { ListPut old.now.rule.which old.now.file.now old.now.rule.deck old.now.blocks i
-        (new_vertex old.now.rule.which old.now.file.now old.now.rule.deck old.now.blocks i) out.old at out.new result }
+    requires { OldListReady old.now i start out.old (at + list_in_vertex) }
+    ensures { OldListPut old.now i (vertex_of old.now i) out.old at out.new result }
 {
     let from = old.blocks.v + DECK_OFFSET_SIZE + VERTEX_SIZE * i;
     let list = copy_part(old.file, from, LIST_IN_VERTEX, at, out);
@@ -71,9 +71,8 @@ fn put_vertex(old: &OldDeck<'_>, i: usize, start: usize, at: usize, out: &mut [u
 
 // V: the deck's offset, then its vertices. Returns the position after it.
 fn put_vertices(old: &OldDeck<'_>, at: usize, out: &mut [u8]) -> usize
-    requires { PartReady old.now.file.now old.now.blocks
-        (new_v old.now.rule.which old.now.file.now old.now.rule.deck old.now.blocks) out.old at }
-    ensures { Put out.old at (new_v old.now.rule.which old.now.file.now old.now.rule.deck old.now.blocks) out.new result }
+    requires { OldReady old.now (v_of old.now) out.old at }
+    ensures { Put out.old at (v_of old.now) out.new result }
 {
     let mut next = copy_part(old.file, old.blocks.v, DECK_OFFSET_SIZE, at, out);
     let mut start: usize = 0;
@@ -87,7 +86,7 @@ fn put_vertices(old: &OldDeck<'_>, at: usize, out: &mut [u8]) -> usize
 
 // P, C and H, which lie end to end, as they are. Returns the position after them.
 fn put_rest(old: &OldDeck<'_>, at: usize, out: &mut [u8]) -> usize
-    requires { PartReady old.now.file.now old.now.blocks (rest_of old.now.file.now old.now.blocks) out.old at }
+    requires { OldReady old.now (rest_of old.now.file.now old.now.blocks) out.old at }
     ensures { Put out.old at (rest_of old.now.file.now old.now.blocks) out.new result }
 {
     let b = old.blocks;
@@ -95,7 +94,7 @@ fn put_rest(old: &OldDeck<'_>, at: usize, out: &mut [u8]) -> usize
     copy_part(old.file, b.p, end - b.p, at, out)
 }
 
-// Deck d, to be read as a removal reads it.
+// Deck d, to be read as a removal reads it. Who goes over decks has them by their numbers up to here.
 fn old_deck<'a>(ship: &Ship<'a>, which: Stitches, d: usize) -> OldDeck<'a>
     requires { d < decks_in ship.now }
     ensures is { (result.file.now ≡ ship.now) × ((result.rule.which ≡ which) × (result.rule.deck ≡ d)) }
@@ -142,7 +141,8 @@ fn lost_in_deck(ship: &Ship<'_>, which: Stitches, d: usize) -> usize
     NUMBER_SIZE * (old.blocks.neighbours - old.kept_in(0, old.blocks.neighbours))
 }
 
-// How many bytes block j of the file loses. N is the second of a deck's five blocks.
+// How many bytes block j of the file loses. N is the second of a deck's five blocks. That the file passed is a clause here: of the other four nothing
+// is read, and who reads nothing of a ship learns nothing of it.
 fn lost_in_block(ship: &Ship<'_>, which: Stitches, j: usize) -> usize
     requires { (first_no ship.now ≡ Ok tt) × (j < blocks_per_deck * decks_in ship.now) }
     ensures { LostInBlock which ship.now j result }

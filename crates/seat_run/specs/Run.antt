@@ -47,4 +47,5 @@ abbrev pub RecordsRoom : List ℕ → List ℕ → Type 0
 RecordsRoom seats out = record_size * seat_count seats ≤ length out
 
 abbrev pub RecordsPut : List ℕ → List ℕ → List ℕ → List ℕ → List ℕ → Type 0
-RecordsPut file blocked seats out out' = out' ≡ records_bytes (run_records file blocked seats) ++ drop (record_size * seat_count seats) out
+RecordsPut file blocked seats out out' =
+    out' ≡ records_bytes (run_records file blocked seats) ++ drop (record_size * seat_count seats) out
