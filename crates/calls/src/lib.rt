@@ -22,12 +22,14 @@ use walking::{Next, Search, Step};
 pub const ENTRY_SIZE: usize = 12;
 
 // Question 16 of a float that did not come from bytes: a NaN fails both comparisons.
+#[tactic(auto, using(crate::proofs::MillionTest::million_tests))]
 fn float_in_size(x: f32) -> bool
     ensures { result ≡ in_size x }
 {
     -1000000.0 <= x && x <= 1000000.0
 }
 
+#[tactic(auto, using(crate::proofs::Queries::places))]
 pub fn place_in_size(p: Vec2) -> bool
     ensures { result ≡ question16 p }
 {
@@ -64,6 +66,7 @@ pub fn asked_at(p: Vec2, deck: u32) -> Seat
 }
 
 // A candidate's entry, as number n.
+#[tactic(auto, using(crate::proofs::EntryLoop::entry))]
 pub fn put_candidate(out: &mut [u8], n: usize, polygon: u32, place: Vec2)
     requires { (entry_size * n + entry_size ≤ length out.old) × PointWithin 3030000 place }
     ensures { out.new ≡ splice out.old (entry_size * n) (entry_bytes polygon place) }
@@ -195,6 +198,7 @@ fn height_check(file: &[u8], p: Vec2, polygon: u32) -> Result<Ship<'_>, Refusal>
 }
 
 // The height at a place and of a polygon that passed them.
+#[tactic(auto, using(crate::proofs::HeightCalls::heights_asked))]
 fn height_asked(ship: &Ship<'_>, p: Vec2, polygon: u32) -> Height
     requires { height_check ship.now p polygon ≡ Ok tt }
     ensures { (result ≡ height_call ship.now p polygon) × HeightWithin (2 ^ 121) result }

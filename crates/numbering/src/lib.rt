@@ -49,6 +49,7 @@ fn number_at(step: &Step<'_>, j: usize) -> u32
 }
 
 // How often one hop is doubled, for n of them at least.
+#[tactic(auto, using(crate::proofs::Midpoints::doubled))]
 fn doublings(n: usize) -> usize
     ensures { n ≤ 2 ^ result }
 {
