@@ -63,6 +63,7 @@ impl fmt::Display for Refusal {
 impl Error for Refusal {}
 
 // Question 14 of a blocked set.
+#[tactic(auto, using(crate::proofs::Asking::whole_is))]
 pub fn blocked_whole(blocked: &[u8]) -> bool
     ensures { result ≡ question14 blocked.now }
 {
@@ -70,6 +71,7 @@ pub fn blocked_whole(blocked: &[u8]) -> bool
 }
 
 // Question 17.
+#[tactic(auto, using(crate::proofs::Asking::named))]
 pub fn deck_there(decks: usize, deck: u32) -> bool
     ensures { result ≡ question17 decks deck }
 {
@@ -77,6 +79,7 @@ pub fn deck_there(decks: usize, deck: u32) -> bool
 }
 
 // Whether a search that names this deck, or none, looks at deck d.
+#[tactic(auto, using(crate::proofs::Asking::looks))]
 pub fn looks_at(deck: u32, d: usize) -> bool
     ensures { result ≡ looks_at deck d }
 {
@@ -84,6 +87,7 @@ pub fn looks_at(deck: u32, d: usize) -> bool
 }
 
 // Question 20 for `count` entries of `size` bytes. Their product may not fit a number, so the room is divided.
+#[tactic(auto, using(crate::proofs::Asking::room_is))]
 pub fn room_for(size: usize, count: usize, room: usize) -> bool
     requires { 0 < size }
     ensures { result ≡ question20 (size * count) room }
