@@ -65,8 +65,3 @@ module _ (file : List ℕ) (p : Vec2) (deck : ℕ) (blocked : List ℕ) (passed 
         blocked_long = blocked_32 blocked b.0;
         place_within = rw e (size_of_place p s.0);
       }
-
-  pub lists_ready : {ship : List ℕ} {seat : Seat} {kept : List ℕ} → ship ≡ file → seat ≡ asked_at p deck → ListsRoom kept → ListsReady ship seat.place kept × (length blocked ≡ 32)
-  lists_ready same e room =
-      let ready = query_ready same refl e in
-      (record { file_passed = ready.file_ready.file_passed; place_within = ready.place_within; room = room }, ready.blocked_long)

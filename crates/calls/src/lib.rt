@@ -119,7 +119,10 @@ pub fn get_closest_points_on_layers(
     let seat = asked_at(p, deck);
     let mut kept = [0u32; KEPT_SIZE];
     let mut near = [0u32; NEAR_SIZE];
-    walking::sift_decks(&ship, blocked, seat, &mut kept);
+    let found = placing::place_seat(&ship, blocked, &table, seat, &mut kept, &mut near);
+    if records::unplaced(found) {
+        return Ok(0);
+    }
     let search = Search {
         ship: &ship,
         blocked,
@@ -127,10 +130,6 @@ pub fn get_closest_points_on_layers(
         seat,
         kept: &kept,
     };
-    let found = placing::place_seat(&search, &mut near);
-    if records::unplaced(found) {
-        return Ok(0);
-    }
     let step = Step {
         search: &search,
         number: found.step as usize,
@@ -155,15 +154,7 @@ pub fn get_closest_point_on_layers(
     let seat = asked_at(p, deck);
     let mut kept = [0u32; KEPT_SIZE];
     let mut near = [0u32; NEAR_SIZE];
-    walking::sift_decks(&ship, blocked, seat, &mut kept);
-    let search = Search {
-        ship: &ship,
-        blocked,
-        table: &table,
-        seat,
-        kept: &kept,
-    };
-    let found = placing::place_seat(&search, &mut near);
+    let found = placing::place_seat(&ship, blocked, &table, seat, &mut kept, &mut near);
     if records::unplaced(found) {
         return Ok(0);
     }

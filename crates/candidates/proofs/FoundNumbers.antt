@@ -19,11 +19,9 @@ use Rattle.ship.specs.Model.{polygon_total}
 use Rattle.ship.specs.Decode.{decode}
 use Rattle.survey.specs.declared.Seat.{Seat}
 use Rattle.survey.specs.Search.{seat_record, candidates}
-use Rattle.keeping.specs.Lists.{ListsRoom}
 use Rattle.walking.specs.Sees.{seen_by, SearchReady}
-use Rattle.walking.specs.Lists.{ListsReady}
 use Rattle.calls.specs.Closest.{asked_at, closest_points}
-use Rattle.calls.proofs.Queries.{query_ready, lists_ready}
+use Rattle.calls.proofs.Queries.{query_ready}
 use Rattle.calls.proofs.ClosestCalls.{no_points, points_are, points_count, step_below}
 use Rattle.touching.specs.Touching.{touches}
 use Rattle.touching.specs.Reach.{merged}
@@ -40,9 +38,6 @@ use Rattle.candidates.proofs.CandidateReplies.{deck_there, call_wide}
 module _ {file : List ℕ} {p : Vec2} {deck : ℕ} {blocked work : List ℕ} (ready : FoundReady file p deck blocked work) {seat : Seat} (is : seat ≡ asked_at p deck) where
   pub found_ready : {table : List ℤ} → table ≡ directions → SearchReady file blocked table seat
   found_ready t = query_ready file p deck blocked ready.passed refl t is
-
-  pub found_lists : {kept : List ℕ} → ListsRoom kept → ListsReady file seat.place kept × (length blocked ≡ 32)
-  found_lists room = lists_ready file p deck blocked ready.passed refl is room
 
   module _ {found : SeatRecord} {u : Bool} (placed : found ≡ seat_record (seen_by file blocked seat) (decode file).steps) (asked : u ≡ is_unplaced found) where
     pub found_none : u ≡ true → {out out' work' : List ℕ} {r : Answer} → NumbersWorked [] out out' work work' r

@@ -61,7 +61,7 @@ fn merge_numbers(step: &Step<'_>, list: &mut [u8]) -> usize
     requires { number_size * step.now.count ≤ length list.old }
     ensures { NumbersMerged (merged_of step.now) list.old list.new result }
 {
-    numbering::put_numbers(step, list);
+    numbering::put_numbers(step.search, step.number, list);
     merging::merge_touching_readings(step.search.ship, list, step.count)
 }
 
@@ -118,7 +118,10 @@ fn put_found(
     let seat = calls::asked_at(p, deck);
     let mut kept = [0u32; KEPT_SIZE];
     let mut near = [0u32; NEAR_SIZE];
-    walking::sift_decks(ship, blocked, seat, &mut kept);
+    let found = placing::place_seat(ship, blocked, &table, seat, &mut kept, &mut near);
+    if records::unplaced(found) {
+        return put_none(out, work);
+    }
     let search = Search {
         ship,
         blocked,
@@ -126,10 +129,6 @@ fn put_found(
         seat,
         kept: &kept,
     };
-    let found = placing::place_seat(&search, &mut near);
-    if records::unplaced(found) {
-        return put_none(out, work);
-    }
     let step = Step {
         search: &search,
         number: found.step as usize,

@@ -6,11 +6,11 @@ use mathlib.Core.List.{List}
 use lib.ListN.{length, get_or, set, take, drop, length-set}
 use lib.Seq.{get_or-set_same, get_or-set_other}
 use Rattle.std.proofs.lemmas.List.{drop-set-lt, drop-take, get_or-take, length-take-le, take-append-drop, take-append-le}
-use Rattle.keeping.specs.declared.Listed.{Listed}
+use Rattle.keeping.specs.declared.ListPlace.{ListPlace}
 use Rattle.keeping.specs.Lists.{list_size, lists_size, list_at, numbers_at, with_list, ListsRoom}
 
 -- ---- what is read of an array in which deck d's list was written
-module _ (array : List ℕ) (d : ℕ) (list : Listed) where
+module _ (array : List ℕ) (d : ℕ) (list : ListPlace) where
   pub with_long : length (with_list array d list) ≡ length array
   unfolding with_list
   with_long = simp length-set
@@ -25,7 +25,7 @@ module _ (array : List ℕ) (d : ℕ) (list : Listed) where
 
   module _ (few : d < 256) where
     -- the numbers of a list stand behind
-    pub numbers_behind : (other : Listed) → lists_size ≤ other.start → numbers_at (with_list array d list) other ≡ numbers_at array other
+    pub numbers_behind : (other : ListPlace) → lists_size ≤ other.start → numbers_at (with_list array d list) other ≡ numbers_at array other
     unfolding with_list
     numbers_behind other h =
         let a : List ℕ = set array (list_size * d) list.start in
@@ -71,7 +71,7 @@ module _ (array array' : List ℕ) {at : ℕ} (inside : at ≤ length array) (in
   same_list e h =
       rw (same_place (list_size * e) (omega arith), same_place (list_size * e + 1) (omega arith), same_place (list_size * e + 2) (omega arith))
 
-  pub same_numbers : (list : Listed) → list.start + list.count ≤ at → numbers_at array' list ≡ numbers_at array list
+  pub same_numbers : (list : ListPlace) → list.start + list.count ≤ at → numbers_at array' list ≡ numbers_at array list
   same_numbers list h = sym (front array' inside') ∙ ap (λ (l : List ℕ). drop list.start (take (list.start + list.count) l)) same ∙ front array inside
     where
       front : (l : List ℕ) → at ≤ length l → drop list.start (take (list.start + list.count) (take at l)) ≡ numbers_at l list

@@ -21,7 +21,7 @@ pub struct Kept<'a> {
 
 // Where a deck's list stands in the array of all lists: it has `count` numbers from `start` on.
 #[derive(Clone, Copy, Debug, PartialEq, Eq)]
-pub struct Listed {
+pub struct ListPlace {
     pub start: usize,
     pub count: usize,
     pub rest: usize,
@@ -38,22 +38,33 @@ pub const KEPT_SIZE: usize = 4864;
 
 pub const NEAR_SIZE: usize = 4096;
 
-// Deck d's list.
-pub fn list_of(array: &[u32], d: usize) -> Kept<'_>
-    requires { ListsRoom array.now × ((d < 256) × LiesIn array.now (list_at array.now d)) }
-    ensures { (result.numbers.now ≡ numbers_at array.now (list_at array.now d)) × (result.rest ≡ (list_at array.now d).rest) }
+// What the array has of deck d's list.
+pub fn list_place(array: &[u32], d: usize) -> ListPlace
+    requires { ListsRoom array.now × (d < 256) }
+    ensures { result ≡ list_at array.now d }
 {
     let at = LIST_SIZE * d;
-    let start = array[at] as usize;
-    let count = array[at + 1] as usize;
-    Kept {
-        numbers: &array[start..start + count],
+    ListPlace {
+        start: array[at] as usize,
+        count: array[at + 1] as usize,
         rest: array[at + 2] as usize,
     }
 }
 
+// Deck d's list, which lies in the array.
+pub fn list_of(array: &[u32], d: usize) -> Kept<'_>
+    requires { ListsRoom array.now × ((d < 256) × LiesIn array.now (list_at array.now d)) }
+    ensures { (result.numbers.now ≡ numbers_at array.now (list_at array.now d)) × (result.rest ≡ (list_at array.now d).rest) }
+{
+    let ListPlace { start, count, rest } = list_place(array, d);
+    Kept {
+        numbers: &array[start..start + count],
+        rest,
+    }
+}
+
 #[tactic(auto, unfolding(crate::specs::Lists::with_list))]
-pub fn put_list(array: &mut [u32], d: usize, list: Listed)
+pub fn put_list(array: &mut [u32], d: usize, list: ListPlace)
     requires { ListsRoom array.old × ((d < 256) × ((list.start + list.count ≤ 2 ^ 31) × (list.rest < 2 ^ 31))) }
     ensures { array.new ≡ with_list array.old d list }
 {
@@ -129,8 +140,8 @@ pub fn first_hit(
     }
 }
 
-// The first polygon from number k on that passes at q, which is sample i. `search::next_hit` is the same over all polygons: of who has no list no law of
-// a list is asked there.
+// The first polygon from number k on that passes at q, which is sample i. `search::next_hit` is the same over all polygons: it asks no law of a list of who
+// has none.
 pub fn next_hit(deck: &Deck<'_>, q: Vec2, i: usize, k: usize, kept: Kept<'_>) -> Option<Hit>
     requires { KeptAt deck.now kept.numbers.now kept.rest q }
     ensures { result ≡ next_hit deck.now q i k }

@@ -13,7 +13,7 @@ ghost use Rattle.lines.specs.Input.{question21};
 use arrayvec::ArrayVec;
 use records::SeatRecord;
 
-// A line while it is made; it never allocates. The longest has 121 bytes.
+// A line while it is made; it never allocates. None has more than 121 bytes.
 type Line = ArrayVec<u8, 128>;
 
 // Question 21.
@@ -107,7 +107,7 @@ fn add_height(line: &mut Line, kind: u32, bits: u32)
     }
 }
 
-// Polygons of a deck in a packed number: deck · 2^24 + polygon.
+// A packed number is deck · 2^24 + polygon.
 const PACKED_DECK: u32 = 1 << 24;
 
 // The deck, and the polygon in its deck.

@@ -29,20 +29,20 @@ module _ (f : ℕ → SeatRecord) where
 
 -- ---- put_seats
 -- the lines of the first i records are put
-pub record Listed (records text₀ text : List ℕ) (at i : ℕ) : Type 0 where
+pub record ListPlace (records text₀ text : List ℕ) (at i : ℕ) : Type 0 where
   pub long : length text ≡ length text₀
   pub few : at ≤ 128 * i
   pub put : Put text₀ 0 (seat_lines 0 (records_in records i)) text at
 
 module _ {records text₀ : List ℕ} where
-  pub listed_none : Listed records text₀ text₀ 0 0
+  pub listed_none : ListPlace records text₀ text₀ 0 0
   unfolding seat_lines rows
   listed_none = record { long = refl; few = omega arith; put = record { out_is = sym (splice_nil text₀ 0); next_is = refl } }
 
-  module _ {text : List ℕ} {at i : ℕ} (l : Listed records text₀ text at i) where
+  module _ {text : List ℕ} {at i : ℕ} (l : ListPlace records text₀ text at i) where
     pub listed_more : {text' : List ℕ} {count n : ℕ} {r : SeatRecord} → i < count → count ≤ most_seats → text_size ≤ length text₀
         → r ≡ record_at records i → Put text at (seat_line i r) text' n → n ≤ at + 128
-        → Listed records text₀ text' n (i + 1)
+        → ListPlace records text₀ text' n (i + 1)
     listed_more {text'} {count} {n} {r} more few room e p h =
         let z : 0 + i ≡ i = omega arith in
         let fits : at + length (seat_line i r) ≤ length text = omega (arith, p.next_is, l.long, l.few) in

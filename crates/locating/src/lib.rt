@@ -110,7 +110,7 @@ pub fn get_point_layer(file: &[u8], p: Vec2, deck: u32, out: &mut [u8]) -> Answe
     Ok(count)
 }
 
-// The location over C: the packed polygon, or minus the question's number. No `From`: both types are of the library.
+// The location over C: the packed polygon, or minus the question's number. No `From`: no type in it is of this crate.
 pub fn code(location: Result<u32, Refusal>) -> i64
     ensures { result ≡ code_of location }
 {

@@ -52,11 +52,10 @@ pub record Putting (file blocked : List ℕ) (seat : Seat) (s : ℕ) (list₀ li
   pub room : number_size * length (step_numbers file blocked seat s) ≤ length list₀
   pub rest : Rest bytes4 number_size 0 list₀ 0 (step_numbers file blocked seat s) list n
 
-pub putting_all : {file blocked : List ℕ} {table : List ℤ} {seat : Seat} {s count : ℕ} {list array : List ℕ} {next : Next} → WalkReady file blocked table seat array
-    → count ≡ length (candidates (seen_by file blocked seat) s) → number_size * count ≤ length list
-    → WalkedStep file (seen_by file blocked seat) s next → Putting file blocked seat s list list 0 next
-putting_all {file} {blocked} {seat = seat} {s = s} ready counts fits w =
-    record { passes = passing_all ready w; room = omega (arith, numbers_length file blocked seat s, counts, fits); rest = rest_all }
+pub putting_all : {file blocked : List ℕ} {table : List ℤ} {seat : Seat} {s : ℕ} {list array : List ℕ} {next : Next} → WalkReady file blocked table seat array
+    → number_size * length (step_numbers file blocked seat s) ≤ length list → WalkedStep file (seen_by file blocked seat) s next
+    → Putting file blocked seat s list list 0 next
+putting_all ready fits w = record { passes = passing_all ready w; room = fits; rest = rest_all }
 
 module _ {file blocked : List ℕ} {seat : Seat} {s : ℕ} {list₀ list : List ℕ} {n : ℕ} {next : Next} (h : Putting file blocked seat s list₀ list n next) where
   pub putting_long : length list ≡ length list₀

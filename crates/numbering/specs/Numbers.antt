@@ -8,6 +8,7 @@ use Rattle.survey.specs.Search.{candidates}
 use Rattle.touching.specs.Touching.{touches}
 use Rattle.touching.specs.Reach.{within, drops, merged}
 use Rattle.walking.specs.Sees.{seen_by}
+use Rattle.walking.specs.declared.Search.{Search}
 use Rattle.walking.specs.declared.Step.{Step}
 
 abbrev pub packed_candidate : Candidate → ℕ
@@ -27,9 +28,12 @@ step_drops file blocked seat s j = drops (touches (decode file)) (step_numbers f
 abbrev pub step_merged : List ℕ → List ℕ → Seat → ℕ → List ℕ
 step_merged file blocked seat s = merged (touches (decode file)) (step_numbers file blocked seat s)
 
--- ---- the same of a step of a search
+-- ---- the same of a search, and of a step of it
+abbrev pub searched : Search → ℕ → List ℕ
+searched search s = step_numbers search.ship.now search.blocked.now search.seat s
+
 abbrev pub numbers_of : Step → List ℕ
-numbers_of step = step_numbers step.search.now.ship.now step.search.now.blocked.now step.search.now.seat step.number
+numbers_of step = searched step.search.now step.number
 
 abbrev pub reach_of : Step → ℕ → ℕ → ℕ → Bool
 reach_of step t a b = step_reach step.search.now.ship.now step.search.now.blocked.now step.search.now.seat step.number t a b

@@ -5,22 +5,21 @@
 ghost use Rattle.std.specs.Prelude.{◌≡◌, ◌*◌, ◌^◌, ◌≤◌, ◌<◌, T, length, get_or};
 ghost use Rattle.words.specs.Bytes.{splice, words_of};
 ghost use Rattle.words.specs.Rows.{has};
-ghost use Rattle.ship.specs.Layout.{number_size};
-ghost use Rattle.numbering.specs.Numbers.{numbers_of, reach_of, drops_of, merged_of};
+ghost use Rattle.ship.specs.Layout.{number_size, steps_in};
+ghost use Rattle.numbering.specs.Numbers.{searched, numbers_of, reach_of, drops_of, merged_of};
 
 use keeping::NEAR_SIZE;
 use ship::NUMBER_SIZE;
-use walking::{Next, Step};
+use walking::{Next, Search, Step};
 
-// The numbers of a step, written from the first byte on.
-pub fn put_numbers(step: &Step<'_>, list: &mut [u8])
-    requires { number_size * step.now.count ≤ length list.old }
-    ensures { list.new ≡ splice list.old 0 (words_of (numbers_of step.now)) }
+// The numbers of step s, written from the first byte on.
+pub fn put_numbers(search: &Search<'_>, s: usize, list: &mut [u8])
+    requires { (s < steps_in search.now.ship.now) × (number_size * length (searched search.now s) ≤ length list.old) }
+    ensures { list.new ≡ splice list.old 0 (words_of (searched search.now s)) }
 {
-    let search = step.search;
     let mut near = [0u32; NEAR_SIZE];
     let mut n: usize = 0;
-    let mut next = search.first(step.number, &mut near);
+    let mut next = search.first(s, &mut near);
     // A walk is lent its array at each step, so it is no iterator.
     'candidates: while let Next::Reached(c, _) = next {
         words::put_u32(list, NUMBER_SIZE * n, decks::packed(c.deck, c.polygon));

@@ -1,9 +1,10 @@
--- The loop over the steps, `place_seat`: what it says at its start, in a turn, where a step has a candidate and at its end.
+-- The loop over the steps, `search_steps`: what it says at its start, in a turn, where a step has a candidate and at its end.
 use Prim.Native.Nat.{ℕ, suc, ◌+◌, ◌*◌, ◌-◌, ◌≤◌, ◌<◌}
 use mathlib.Core.Path.{◌≡◌, refl, sym, ap, ◌∙◌, subst}
 use mathlib.Core.List.{List, [], ◌∷◌}
 use native.Mathlib.Omega.{arith}
 use native.Mathlib.Numerals.{add-one}
+use lib.IntN.{ℤ}
 use lib.ListN.{length}
 use Rattle.records.specs.declared.SeatRecord.{SeatRecord}
 use Rattle.records.specs.Record.{unplaced_record}
@@ -16,7 +17,9 @@ use Rattle.survey.specs.View.{View}
 use Rattle.survey.specs.Record.{record_at_place}
 use Rattle.survey.specs.Search.{candidates, tried_in, tried_before, best_of, first_step, seat_record}
 use Rattle.survey.proofs.Loops.{first_step_yes, first_step_no, first_step_none}
-use Rattle.walking.specs.Sees.{seen_by, CandidateWithin}
+use Rattle.keeping.specs.Lists.{ListsRoom}
+use Rattle.walking.specs.Sees.{seen_by, SearchReady, CandidateWithin}
+use Rattle.walking.specs.Lists.{ListsReady}
 use Rattle.std.specs.Prelude.{Some, None}
 use Rattle.placing.specs.declared.Choice.{Choice}
 use Rattle.placing.specs.declared.Tally.{Tally}
@@ -109,3 +112,9 @@ module _ {file blocked : List ℕ} {seat : Seat} {tried s n : ℕ} (h : Searchin
             made ∙ rw (h.same, first_step_yes v s (decode file).steps first rest (omega arith) e, same, tried_next, count_next, e)
 
 pub ruleset searching = (step_in, searching_all, best_placed, counts_within, searching_few, searching_none, searching_more, searching_found)
+
+-- ---- `place_seat`
+pub lists_ready : {file blocked : List ℕ} {table : List ℤ} {seat : Seat} {kept : List ℕ} → SearchReady file blocked table seat → ListsRoom kept
+    → ListsReady file seat.place kept × (length blocked ≡ 32)
+lists_ready ready room =
+    (record { file_passed = ready.file_ready.file_passed; place_within = ready.place_within; room = room }, ready.blocked_long)

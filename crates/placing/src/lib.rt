@@ -8,14 +8,17 @@ ghost use Rattle.ship.specs.Layout.{steps_in};
 ghost use Rattle.ship.specs.Decode.{decode};
 ghost use Rattle.survey.specs.Record.{height_kind, height_bits, record_at_place};
 ghost use Rattle.survey.specs.Search.{seat_record};
-ghost use Rattle.walking.specs.Sees.{CandidateWithin};
+ghost use Rattle.keeping.specs.Lists.{ListsRoom};
+ghost use Rattle.walking.specs.Sees.{seen_by, SearchReady, CandidateWithin};
+ghost use Rattle.walking.specs.Lists.{Sifted};
 ghost use Rattle.walking.specs.Asked.{seen};
 ghost use Rattle.placing.specs.Tally.{choose_with, take_with, step_tally, TallyWithin, CountsWithin};
 
+use decks::Ship;
 use geometry::{Height, Vec2};
 use hits::Candidate;
 use records::SeatRecord;
-use survey::Wish;
+use survey::{Seat, Wish};
 use walking::{Next, Search};
 
 // A candidate, where it lies, and the height there.
@@ -145,9 +148,8 @@ fn unplaced_record(tried: usize) -> SeatRecord
     }
 }
 
-// The search of a seat, step by step over its kept lists: the first step with any hit is the last. What `near` holds is of no use to anybody
-// afterwards.
-pub fn place_seat(search: &Search<'_>, near: &mut [u32]) -> SeatRecord
+// The steps of a seat's search over its kept lists: the first with any hit is the last.
+fn search_steps(search: &Search<'_>, near: &mut [u32]) -> SeatRecord
     ensures { result ≡ seat_record (seen search.now) (decode search.now.ship.now).steps }
 {
     let steps = search.ship.steps();
@@ -160,4 +162,29 @@ pub fn place_seat(search: &Search<'_>, near: &mut [u32]) -> SeatRecord
         tried = tally.tried;
     }
     unplaced_record(tried)
+}
+
+// The search of a seat. Polygons that no sample of it can reach are sifted out first; the lists that are left in `kept` serve a later walk over its
+// last step. What `near` holds is of no use to anybody afterwards.
+pub fn place_seat(
+    ship: &Ship<'_>,
+    blocked: &[u8],
+    table: &[i32; 2432],
+    seat: Seat,
+    kept: &mut [u32],
+    near: &mut [u32],
+) -> SeatRecord
+    requires { SearchReady ship.now blocked.now table.now seat × ListsRoom kept.old }
+    ensures { (result ≡ seat_record (seen_by ship.now blocked.now seat) (decode ship.now).steps)
+        × Sifted ship.now seat.place kept.new }
+{
+    walking::sift_decks(ship, blocked, seat, kept);
+    let search = Search {
+        ship,
+        blocked,
+        table,
+        seat,
+        kept,
+    };
+    search_steps(&search, near)
 }

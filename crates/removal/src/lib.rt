@@ -34,14 +34,16 @@ fn put_neighbours(old: &OldDeck<'_>, at: usize, out: &mut [u8]) -> usize
     requires { OldReady old.now (n_of old.now) out.old at }
     ensures { Put out.old at (n_of old.now) out.new result }
 {
+    // A copy of the loop's own, since what is borrowed is read anew after each write.
+    let OldDeck { file, rule, blocks } = *old;
     let mut next = at;
     // A for: what is written moves on for those alone that stay.
-    'entries: for i in 0..old.blocks.neighbours {
-        let entry = words::u32_at(old.file, old.blocks.n + NUMBER_SIZE * i);
-        if !old.rule.keeps(entry) {
+    'entries: for i in 0..blocks.neighbours {
+        let entry = words::u32_at(file, blocks.n + NUMBER_SIZE * i);
+        if !rule.keeps(entry) {
             continue;
         }
-        words::put_u32(out, next, old.rule.written_as(entry));
+        words::put_u32(out, next, rule.written_as(entry));
         next += NUMBER_SIZE;
     }
     next
@@ -94,7 +96,7 @@ fn put_rest(old: &OldDeck<'_>, at: usize, out: &mut [u8]) -> usize
     copy_part(old.file, b.p, end - b.p, at, out)
 }
 
-// Deck d, to be read as a removal reads it. Who goes over decks has them by their numbers up to here.
+// Deck d, to be read as a removal reads it. The functions below name a deck by its number.
 fn old_deck<'a>(ship: &Ship<'a>, which: Stitches, d: usize) -> OldDeck<'a>
     requires { d < decks_in ship.now }
     ensures is { (result.file.now ≡ ship.now) × ((result.rule.which ≡ which) × (result.rule.deck ≡ d)) }

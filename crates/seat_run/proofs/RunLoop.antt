@@ -6,7 +6,6 @@ use mathlib.Core.Bool.{Bool, true, false, not}
 use mathlib.Core.List.{List}
 use lib.IntN.{ℤ}
 use lib.ListN.{length}
-use Rattle.geometry.specs.declared.Vec2.{Vec2}
 use Rattle.geometry.specs.Bounds.{PointWithin}
 use Rattle.ring.specs.Table.{directions}
 use Rattle.words.specs.Bytes.{splice}
@@ -23,14 +22,12 @@ use Rattle.records.proofs.ReadBack.{no_record, record_length}
 use Rattle.ship.specs.Decode.{decode}
 use Rattle.survey.specs.declared.Seat.{Seat}
 use Rattle.survey.specs.Search.{seat_record}
-use Rattle.walking.specs.Sees.{seen_by}
+use Rattle.walking.specs.Sees.{seen_by, SearchReady}
 use Rattle.seat_run.specs.SeatFile.{seat_at, seat_count, question16_seat}
 use Rattle.seat_run.specs.Run.{record_of_seat, run_check, run_records, run_reply, RecordsRoom, RecordsPut}
 use Rattle.seat_run.specs.Ready.{RunReady}
 use Rattle.decks.specs.Opened.{opened}
 use Rattle.decks.proofs.Opening.{opened_err, opened_ok}
-use Rattle.keeping.specs.Lists.{ListsRoom}
-use Rattle.walking.specs.Lists.{Sifted, ListsReady, WalkReady}
 use Rattle.answers.specs.declared.Refusal.{Refusal}
 use Rattle.seat_run.specs.Survey.{Surveyed}
 use Rattle.seat_run.specs.Blocked.{BlockedUnplaced}
@@ -48,22 +45,12 @@ module _ {file blocked : List ℕ} {table : List ℤ} {seats : List ℕ} {i : �
   pub seat_floats : question16_seat seats i ≡ true
   seat_floats = seat_yes16 asked i h
 
-  pub seat_lists : {p : Vec2} {kept : List ℕ} → PointWithin 1000000 p → ListsRoom kept → ListsReady file p kept
-  seat_lists within room = record { file_passed = asked.file_passed; place_within = within; room = room }
-
-  pub seat_blocked : length blocked ≡ 32
-  seat_blocked = run_blocked file blocked seats asked
-
-  pub seat_walks : {seat : Seat} {kept : List ℕ} → PointWithin 1000000 seat.place → Sifted file seat.place kept → WalkReady file blocked table seat kept
-  seat_walks within sifted =
+  pub seat_search : {seat : Seat} → PointWithin 1000000 seat.place → SearchReady file blocked table seat
+  seat_search within =
       record {
-        search_ready =
-            record {
-              file_ready = record { file_passed = asked.file_passed; table_is = ready.table_is };
-              blocked_long = seat_blocked;
-              place_within = within;
-            };
-        sifted = sifted;
+        file_ready = record { file_passed = asked.file_passed; table_is = ready.table_is };
+        blocked_long = run_blocked file blocked seats asked;
+        place_within = within;
       }
 
 pub seat_room : (seats : List ℕ) {i room : ℕ} → i < seat_count seats → record_size * seat_count seats ≤ room → record_size * i + record_size ≤ room
@@ -73,7 +60,7 @@ pub seat_record_lem : (file blocked seats : List ℕ) (i : ℕ) {seat : Seat} {r
     → r ≡ seat_record (seen_by file blocked seat) (decode file).steps → r ≡ record_of_seat (decode file) blocked seats i
 seat_record_lem file blocked seats i is placed = placed ∙ rw is
 
-pub ruleset seat_put = (seat_inside, seat_floats, seat_lists, seat_blocked, seat_walks, seat_room, seat_record_lem)
+pub ruleset seat_put = (seat_inside, seat_floats, seat_search, seat_room, seat_record_lem)
 
 -- ---- `put_records`: the records of the seats below i stand in the output, and the others are left
 pub record Recording (file blocked seats out₀ out : List ℕ) (i : ℕ) : Type 0 where

@@ -2,7 +2,7 @@
 use Rattle.std.specs.Prelude.{ℕ, List, ℤ, ◌≡◌, Ok}
 use denote.Struct.Props as logic
 use Rattle.ring.specs.Table.{directions}
-use Rattle.walking.specs.Ready.{check_set}
+use Rattle.decks.specs.CheckSet.{check_set}
 use Rattle.seat_run.specs.Run.{run_check}
 
 pub record RunReady (file blocked : List ℕ) (table : List ℤ) (seats : List ℕ) : Type 0 where

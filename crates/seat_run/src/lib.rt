@@ -25,7 +25,6 @@ use geometry::Vec2;
 use keeping::{KEPT_SIZE, NEAR_SIZE};
 use records::{RECORD_SIZE, SeatRecord};
 use survey::{DeckChoice, Seat, Wish};
-use walking::Search;
 
 pub const SEAT_SIZE: usize = 20;
 
@@ -156,15 +155,14 @@ pub fn put_seat(run: &SeatRun<'_>, i: usize, out: &mut [u8], lists: &mut Lists<'
         × (out.new ≡ splice out.old (record_size * i) (record_bytes result)) }
 {
     let seat = seat_at(run.seats, i);
-    walking::sift_decks(run.ship, run.blocked, seat, lists.kept);
-    let search = Search {
-        ship: run.ship,
-        blocked: run.blocked,
-        table: run.table,
+    let record = placing::place_seat(
+        run.ship,
+        run.blocked,
+        run.table,
         seat,
-        kept: lists.kept,
-    };
-    let record = placing::place_seat(&search, lists.near);
+        lists.kept,
+        lists.near,
+    );
     records::put_record(out, i, record);
     record
 }

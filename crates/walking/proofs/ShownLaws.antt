@@ -7,7 +7,6 @@ use native.Mathlib.Omega.{arith}
 use native.Mathlib.Nat.{mul-le-mul}
 use mir.Syntax.{w64}
 use mir.Val.{Fits}
-use lib.IntN.{ℤ}
 use lib.ListN.{length, get_or-eq_default}
 use lib.Dec.{ltb}
 use lib.Ieee.{Float}
@@ -34,7 +33,7 @@ use Rattle.survey.specs.Search.{turn, candidates, tried_in}
 use Rattle.survey.proofs.Loops.{candidates_bound, tried_in_bound}
 use Rattle.search.specs.OnDeck.{deck_turn, next_hit, height_on}
 use Rattle.search.proofs.HeightBound.{height_within}
-use Rattle.walking.specs.Sees.{sample_on, place_of, shown_from, shown_by, seen_by, FileReady, CandidateIn, CandidateWithin}
+use Rattle.walking.specs.Sees.{sample_on, place_of, shown_from, shown_by, seen_by, CandidateIn, CandidateWithin}
 use Rattle.walking.specs.Walk.{passing_after}
 
 pub polygons_shown : (file : List ℕ) (d : ℕ) (p : Vec2) → (shown_by file p).polygons d ≡ length (deck_of (decode file) d).polygons
@@ -81,8 +80,8 @@ module _ (file : List ℕ) (p : Vec2) (c : Candidate) {deck : Deck} (is : deck �
 pub step_few : (file : List ℕ) → first_no file ≡ Ok tt → {s : ℕ} → s < steps_in file → s < 16
 step_few file passed h = omega (arith, (steps_range file passed).1)
 
-pub step_small : {file : List ℕ} {table : List ℤ} {c : Candidate} → FileReady file table → CandidateIn file c → c.step < 16
-step_small {file} ready on = step_few file ready.file_passed on.turn.step
+pub step_small : {file : List ℕ} {c : Candidate} → first_no file ≡ Ok tt → CandidateIn file c → c.step < 16
+step_small {file} passed on = step_few file passed on.turn.step
 
 pub ruleset shows = (step_small, turn_shown, sample_shown, polygon_there, place_shown, height_shown, next_fits, next_shown)
 

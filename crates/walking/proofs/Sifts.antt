@@ -21,7 +21,7 @@ use Rattle.ship.specs.Decode.{decode}
 use Rattle.ship.specs.Within.{DeckWithin}
 use Rattle.ship.proofs.Facts.{decks_few}
 use Rattle.ship.proofs.ModelFacts.{deck_of_within, steps_in_lem}
-use Rattle.keeping.specs.declared.Listed.{Listed}
+use Rattle.keeping.specs.declared.ListPlace.{ListPlace}
 use Rattle.keeping.specs.Lists.{list_at, numbers_at, with_list, ListsRoom}
 use Rattle.keeping.proofs.ListLaws.{with_long, numbers_behind, list_here, list_before, same_list, same_numbers}
 use Rattle.sifting.specs.declared.Remaining.{Remaining}
@@ -50,7 +50,7 @@ pub ready_few : {file : List ℕ} {p : Vec2} {d : ℕ} → DeckReady file p d �
 ready_few {file} ready = omega (arith, ready.there, decks_few file ready.file_passed)
 
 -- ---- deck d's list is written, and its numbers stand from `at` on; the lists before it stand as they stood
-abbrev pub listed : ℕ → Remaining → Listed
+abbrev pub listed : ℕ → Remaining → ListPlace
 listed at left = record { start = at; count = left.count; rest = left.rest }
 
 module _ {file : List ℕ} {p : Vec2} {array : List ℕ} {at d : ℕ} (b : ListsBelow file p array at d) (there : d < decks_in file) where

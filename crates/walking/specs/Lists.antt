@@ -9,7 +9,7 @@ use Rattle.ship.specs.Layout.{decks_in, steps_in}
 use Rattle.ship.specs.Questions.{first_no}
 use Rattle.ship.specs.Model.{deck_of}
 use Rattle.ship.specs.Decode.{decode}
-use Rattle.keeping.specs.declared.Listed.{Listed}
+use Rattle.keeping.specs.declared.ListPlace.{ListPlace}
 use Rattle.keeping.specs.Lists.{lists_size, list_at, numbers_at, LiesIn, ListsRoom}
 use Rattle.sifting.specs.declared.Remaining.{Remaining}
 use Rattle.sifting.specs.Sifted.{KeptOver, SiftedInto}
@@ -21,7 +21,7 @@ unfoldable pub search_box : List ℕ → Vec2 → ℕ → BoundingBox
 search_box file p d = step_box (sub_of p (deck_of (decode file) d).offset) (decode file).reach (steps_in file - 1)
 
 -- a list of deck d lies in the array, and is one over that box
-pub record DeckKept (file : List ℕ) (p : Vec2) (array : List ℕ) (d : ℕ) (list : Listed) : Type 0 where
+pub record DeckKept (file : List ℕ) (p : Vec2) (array : List ℕ) (d : ℕ) (list : ListPlace) : Type 0 where
   pub inside : LiesIn array list
   pub over : KeptOver (deck_of (decode file) d) (search_box file p d) (numbers_at array list) list.rest
 
@@ -49,7 +49,7 @@ pub record ListsReady (file : List ℕ) (p : Vec2) (array : List ℕ) : Type 0 w
   pub room : ListsRoom array
 
 -- such a list, whose numbers stand behind those of the decks and before `at`
-pub record DeckList (file : List ℕ) (p : Vec2) (array : List ℕ) (at d : ℕ) (list : Listed) : Type 0 where
+pub record DeckList (file : List ℕ) (p : Vec2) (array : List ℕ) (at d : ℕ) (list : ListPlace) : Type 0 where
   pub kept : DeckKept file p array d list
   pub past : lists_size ≤ list.start
   pub below : list.start + list.count ≤ at

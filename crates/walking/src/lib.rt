@@ -3,18 +3,19 @@
 #![tactic(auto)]
 
 ghost use Rattle.std.specs.Prelude.{◌≡◌, ◌≤◌, ◌<◌, length};
+ghost use Rattle.ring.specs.Table.{directions};
 ghost use Rattle.ship.specs.Layout.{decks_in, steps_in};
 ghost use Rattle.ship.specs.Decode.{decode};
 ghost use Rattle.survey.specs.Search.{turn, candidates};
 ghost use Rattle.walking.specs.Sees.{sample_on, shown_by, seen_by, TurnIn, CandidateIn};
 ghost use Rattle.walking.specs.Lists.{Sifted, WalkReady, ListsReady, DeckReady, DeckListed};
 ghost use Rattle.walking.specs.Walk.{passing_after, WalkedFrom, WalkedStep, WalkedAfter};
-ghost use Rattle.walking.specs.Ready.{walk_ready_prop};
+ghost use Rattle.walking.specs.Ready.{ready_prop};
 
 use decks::Ship;
 use geometry::{Height, Vec2};
 use hits::{Candidate, Hit};
-use keeping::{LISTS_SIZE, Listed};
+use keeping::{LISTS_SIZE, ListPlace};
 use sifting::Remaining;
 use survey::Seat;
 
@@ -26,7 +27,7 @@ pub struct Search<'a> {
     pub table: &'a [i32; 2432],
     pub seat: Seat,
     pub kept: &'a [u32],
-    pub ghost ready: { WalkReady ship.now blocked.now table.now seat kept.now } by { walk_ready_prop ship.now blocked.now table.now seat kept.now },
+    pub ghost ready: { WalkReady ship.now blocked.now table.now seat kept.now } by { ready_prop ship.now blocked.now table.now seat kept.now },
 }
 
 // A step of a search, and how many candidates it has.
@@ -83,7 +84,7 @@ pub fn sift_decks(ship: &Ship<'_>, blocked: &[u8], seat: Seat, kept: &mut [u32])
         keeping::put_list(
             kept,
             d,
-            Listed {
+            ListPlace {
                 start: at,
                 count,
                 rest,
@@ -91,6 +92,33 @@ pub fn sift_decks(ship: &Ship<'_>, blocked: &[u8], seat: Seat, kept: &mut [u32])
         );
         at += count;
     }
+}
+
+// The candidate's sample, in the coordinates of its deck. This and the next two take a ship, the table and a point, and no search, which asks for more.
+fn sample_on(ship: &Ship<'_>, table: &[i32; 2432], p: Vec2, c: Candidate) -> Vec2
+    requires { (table.now ≡ directions) × CandidateIn ship.now c }
+    ensures { result ≡ sample_on (decode ship.now) p c }
+{
+    let around = p - ship.deck(c.deck).offset();
+    ring::sample(table, around, ship.reach(), c.step, c.sample)
+}
+
+// Where the candidate lies.
+pub fn place_of(ship: &Ship<'_>, table: &[i32; 2432], p: Vec2, c: Candidate) -> Vec2
+    requires { (table.now ≡ directions) × CandidateIn ship.now c }
+    ensures { result ≡ (shown_by ship.now p).place c }
+{
+    sample_on(ship, table, p, c) + ship.deck(c.deck).offset()
+}
+
+// The height there.
+#[tactic(auto, using(crate::proofs::ShownLaws::shows))]
+pub fn height_of(ship: &Ship<'_>, table: &[i32; 2432], p: Vec2, c: Candidate) -> Height
+    requires { (table.now ≡ directions) × CandidateIn ship.now c }
+    ensures { result ≡ (shown_by ship.now p).height c }
+{
+    let deck = ship.deck(c.deck);
+    search::height_at(&deck, c.polygon, place_of(ship, table, p, c))
 }
 
 impl<'a> Search<'a> {
@@ -107,31 +135,20 @@ impl<'a> Search<'a> {
         sifting::turn(&deck, self.table, around, self.ship.reach(), s, list, near)
     }
 
-    // The candidate's sample, in the coordinates of its deck.
-    fn sample_on(&self, c: Candidate) -> Vec2
-        requires { CandidateIn self.now.ship.now c }
-        ensures { result ≡ sample_on (decode self.now.ship.now) self.now.seat.place c }
-    {
-        let around = self.seat.place - self.ship.deck(c.deck).offset();
-        ring::sample(self.table, around, self.ship.reach(), c.step, c.sample)
-    }
-
     // Where the candidate lies.
     pub fn place_of(&self, c: Candidate) -> Vec2
         requires { CandidateIn self.now.ship.now c }
         ensures { result ≡ (shown_by self.now.ship.now self.now.seat.place).place c }
     {
-        self.sample_on(c) + self.ship.deck(c.deck).offset()
+        place_of(self.ship, self.table, self.seat.place, c)
     }
 
     // The height there.
-    #[tactic(auto, using(crate::proofs::ShownLaws::shows))]
     pub fn height_of(&self, c: Candidate) -> Height
         requires { CandidateIn self.now.ship.now c }
         ensures { result ≡ (shown_by self.now.ship.now self.now.seat.place).height c }
     {
-        let deck = self.ship.deck(c.deck);
-        search::height_at(&deck, c.polygon, self.place_of(c))
+        height_of(self.ship, self.table, self.seat.place, c)
     }
 
     // The next polygon after c's that passes at its sample.
@@ -140,7 +157,7 @@ impl<'a> Search<'a> {
         ensures { result ≡ passing_after (shown_by self.now.ship.now self.now.seat.place) c }
     {
         let deck = self.ship.deck(c.deck);
-        let q = self.sample_on(c);
+        let q = sample_on(self.ship, self.table, self.seat.place, c);
         let list = keeping::list_of(self.kept, c.deck);
         keeping::next_hit(&deck, q, c.sample, c.polygon + 1, list)
     }

@@ -24,4 +24,4 @@ candidates-preserved c =
     (search rules, more)
 
 pub candidates-init : goal.candidates-init
-candidates-init c = (search rules, putting_all c.args.step.now.search.now.ready c.args.step.now.counted c.requires c.first-next.ensures)
+candidates-init c = (search rules, putting_all c.args.search.now.ready c.requires.1 c.first-next.ensures)

@@ -10,7 +10,7 @@ use Rattle.numbering.proofs.put_numbers.Given as goal
 abbrev pub invariant-candidates : goal.invariant-candidates
 invariant-candidates l =
     (length l.near ≡ near_size)
-    × Putting l.step.search.now.ship.now l.step.search.now.blocked.now l.step.search.now.seat l.step.number l.initial.list l.list l.n l.next
+    × Putting l.search.ship.now l.search.blocked.now l.search.seat l.s l.initial.list l.list l.n l.next
 
 abbrev pub decreases-candidates : goal.decreases-candidates
-decreases-candidates l = length (left_of (seen l.step.search.now) l.next)
+decreases-candidates l = length (left_of (seen l.search) l.next)

@@ -1,20 +1,12 @@
-use borrow.Author.Rules.{rules}
-use Rattle.placing.proofs.StepLoop.{searching_found, searching}
+-- `place_seat` meets its contract.
+use Rattle.placing.proofs.StepLoop.{lists_ready}
 use Rattle.placing.proofs.place_seat.Goals as goal
 
-pub steps-init : goal.steps-init
-steps-init c = search (searching, rules)
+pub sift_decks-requires : goal.sift_decks-requires
+sift_decks-requires c = lists_ready c.requires.0 c.requires.1
 
-pub take_step-tally-requires : goal.take_step-tally-requires
-take_step-tally-requires c = search (searching, rules)
-
-pub returns-in-Some : goal.returns-in-Some
-returns-in-Some c =
-    searching_found c.steps.invariant.1 c.steps-steps.ensures.is.0 c.steps-test.true c.take_step-tally.ensures.0
-    c.in-Some.is c.placed_record.ensures
-
-pub steps-preserved : goal.steps-preserved
-steps-preserved c = (search rules, search (searching, rules))
+pub invariant_of-search : goal.invariant_of-search
+invariant_of-search c = record { ready = record { search_ready = c.requires.0; sifted = c.sift_decks.ensures } }
 
 pub returns : goal.returns
-returns c = search (searching, rules)
+returns c = (c.search_steps.ensures, c.sift_decks.ensures)

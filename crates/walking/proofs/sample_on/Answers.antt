@@ -1,7 +1,7 @@
 -- `sample_on` meets its contract.
 use borrow.Author.Rules.{rules}
 use Rattle.walking.proofs.ShownLaws.{shows}
-use Rattle.walking.proofs.Search.sample_on.Goals as goal
+use Rattle.walking.proofs.sample_on.Goals as goal
 
 pub sample-requires : goal.sample-requires
 sample-requires c = search (shows, rules)
