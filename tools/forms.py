@@ -30,11 +30,12 @@ BY_HAND = r"(?:same_\w+|min|max|abs|add|sub|copy|copy_part|clear|swap|choice_of|
 
 # Parameters that stand together.
 SHIP = {"file", "ship"}
+TABLE = {"table", "directions"}
 
 GROUPS = {
     "5 file and blocks": lambda names, types: bool(SHIP & names) and any("Blocks" in t for t in types),
-    "5 file, blocked, table and seat": lambda names, types: bool(SHIP & names) and {"blocked", "table", "seat"} <= names,
-    "5 file, table and point": lambda names, types: bool(SHIP & names) and {"table", "p"} <= names,
+    "5 file, blocked, table and seat": lambda names, types: bool(SHIP & names) and bool(TABLE & names) and {"blocked", "seat"} <= names,
+    "5 file, table and point": lambda names, types: bool(SHIP & names) and bool(TABLE & names) and "p" in names,
     "5 an array and the list in it": lambda names, types: {"array", "kept"} <= names or {"from", "source"} <= names,
     "5 which stitches and which deck": lambda names, types: {"which", "d"} <= names,
     "5 a step and its count": lambda names, types: {"s", "count"} <= names,
@@ -65,6 +66,13 @@ def functions(text):
     for found in re.finditer(r"^\s*(?:pub )?(?:extern \"C\" )?fn (\w+)(?:<[^>]*>)?\(((?:[^()]|\([^()]*\))*)\)(?: -> (.*))?", text, re.M):
         parameters = [part.strip().split(": ", 1) for part in found.group(2).split(",") if ": " in part]
         yield found.group(1), {name for name, _ in parameters}, [kind for _, kind in parameters], found.group(3) or ""
+
+
+def conditions(text):
+    """Each part of a function's conditions, by its words."""
+    for clause in re.findall(r"^\s*requires (?:\w+ )?\{((?:.|\n)*?)\}\n", text, re.M):
+        for part in re.split(r"\s×\s", clause):
+            yield " ".join(part.split()).strip("() ")
 
 
 def same_runs(sources, length):
@@ -104,6 +112,8 @@ def main():
         re.fullmatch(BY_HAND, name) is not None for _, text in sources for name, _, _, _ in functions(text))
     for name, fits in GROUPS.items():
         counts[name] = sum(bool(fits(names, types)) for _, text in sources for _, names, types, _ in functions(text))
+    asked = collections.Counter(part for _, text in sources for part in conditions(text))
+    counts["5 conditions that stand in three functions or more"] = sum(n for n in asked.values() if n > 2)
     counts["8 files of answers"] = len(answers)
     bodies = [re.findall(r"^\S+ c = (.*)$", text, re.M) for text in answers]
     counts["8 of these, those that say only which laws are searched"] = sum(

@@ -7,6 +7,7 @@ ghost use Rattle.boxes.specs.Box.{larger_end, largest_cross, is_apart, box_test_
 ghost use Rattle.boxes.specs.StepBox.{step_box};
 
 use geometry::Vec2;
+use ring::Ring;
 
 // A box, by the corner of its least coordinates and the one of its greatest, ends included.
 #[derive(Clone, Copy, Debug, PartialEq)]
@@ -67,13 +68,13 @@ pub fn box_test(bounds: BoundingBox, a: Vec2, b: Vec2) -> BoxTest
     BoxTest::Maybe
 }
 
-// The box that holds every sample of step s around p, and of every step before it.
+// The box that holds every sample of a ring, and of the rings of the steps before it.
 #[tactic(auto, unfolding(crate::specs::StepBox::step_box))]
-pub fn step_box(p: Vec2, reach: f32, s: usize) -> BoundingBox
-    requires { s < 16 }
-    ensures { result ≡ step_box p reach s }
+pub fn step_box(ring: Ring) -> BoundingBox
+    ensures { result ≡ step_box ring.center ring.reach ring.step }
 {
-    let width = reach * s as f32;
+    let p = ring.center;
+    let width = ring.reach * ring.step as f32;
     BoundingBox {
         low: Vec2 {
             x: p.x - width,

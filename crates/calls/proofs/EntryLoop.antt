@@ -4,7 +4,6 @@ use mathlib.Core.Path.{◌≡◌, refl, ◌∙◌}
 use mathlib.Core.Bool.{Bool, true, false, not}
 use mathlib.Core.List.{List, [], ◌∷◌}
 use native.Mathlib.Omega.{arith}
-use lib.IntN.{ℤ}
 use lib.ListN.{length}
 use lib.Ieee.{binary32, to_bits}
 use Rattle.geometry.specs.declared.Vec2.{Vec2}
@@ -53,7 +52,7 @@ pub record Putting (file blocked : List ℕ) (seat : Seat) (s : ℕ) (out₀ out
   pub room : StepFits (seen_by file blocked seat) s out₀
   pub rest : Rest (candidate_bytes (shown_by file seat.place)) entry_size nowhere out₀ 0 (candidates (seen_by file blocked seat) s) out n
 
-pub putting_all : {file blocked : List ℕ} {table : List ℤ} {seat : Seat} {s count : ℕ} {out array : List ℕ} {next : Next} → WalkReady file blocked table seat array
+pub putting_all : {file blocked : List ℕ} {seat : Seat} {s count : ℕ} {out array : List ℕ} {next : Next} → WalkReady file blocked seat array
     → StepCount (seen_by file blocked seat) s count → entry_size * count ≤ length out → WalkedStep file (seen_by file blocked seat) s next → Putting file blocked seat s out out 0 next
 putting_all ready counts fits w = record { passes = passing_all ready w; room = rw (← counts) fits; rest = rest_all }
 

@@ -1,13 +1,10 @@
 -- The questions of a query: from what the calls returned and the tests found to the answer, and from a passed query to what a search needs.
 use Prim.Native.Nat.{ℕ}
-use mathlib.Core.Path.{◌≡◌, refl, sym, ap, ◌∙◌}
+use mathlib.Core.Path.{◌≡◌, sym, ap, ◌∙◌}
 use mathlib.Core.Bool.{Bool, true, false}
 use mathlib.Core.List.{List}
-use lib.IntN.{ℤ}
-use lib.ListN.{length}
 use Rattle.geometry.specs.declared.Vec2.{Vec2}
 use Rattle.geometry.specs.Bounds.{PointWithin}
-use Rattle.ring.specs.Table.{directions}
 use Rattle.words.proofs.TableRows.{both}
 use Rattle.words.proofs.Collecting.{holds}
 use Rattle.answers.specs.Questions.{question14}
@@ -21,9 +18,8 @@ use Rattle.survey.specs.declared.DeckChoice.{DeckChoice}
 use Rattle.survey.specs.declared.Seat.{Seat}
 use Rattle.survey.specs.declared.Wish.TheVariants.{NoWish}
 use Rattle.survey.specs.Wishes.{choice_of}
-use Rattle.keeping.specs.Lists.{ListsRoom}
 use Rattle.walking.specs.Sees.{SearchReady}
-use Rattle.walking.specs.Lists.{ListsReady}
+use Rattle.walking.specs.Lists.{Sifted, WalkReady}
 use Rattle.calls.specs.Closest.{question16, asked_at, query_check}
 
 -- ---- `place_in_size`: where the first test fails its flag is the answer, and otherwise the second's
@@ -54,14 +50,16 @@ module _ (file : List ℕ) (p : Vec2) (deck : ℕ) (blocked : List ℕ) (passed 
   unfolding query_check
   query_passed = (both_passed (first_no file) _ passed).0
 
-  pub query_ready : {ship : List ℕ} {table : List ℤ} {seat : Seat} → ship ≡ file → table ≡ directions → seat ≡ asked_at p deck → SearchReady ship blocked table seat
+  pub query_ready : {seat : Seat} → seat ≡ asked_at p deck → SearchReady blocked seat
   unfolding query_check
-  query_ready same t e =
+  query_ready e =
       let f = both_passed (first_no file) _ passed in
       let b = asked_yes (question14 blocked) WrongLength _ f.1 in
       let s = asked_yes (question16 p) CallFloatOutOfRange _ b.1 in
       record {
-        file_ready = record { file_passed = rw same f.0; table_is = t };
         blocked_long = blocked_32 blocked b.0;
         place_within = rw e (size_of_place p s.0);
       }
+
+  pub query_walk : {ship : List ℕ} {seat : Seat} {kept : List ℕ} → ship ≡ file → seat ≡ asked_at p deck → Sifted ship seat.place kept → WalkReady ship blocked seat kept
+  query_walk same e sifted = record { file_passed = rw same query_passed; search_ready = query_ready e; sifted = sifted }

@@ -16,6 +16,7 @@ use answers::{Answer, Refusal};
 use decks::Ship;
 use geometry::{Height, Vec2};
 use keeping::{KEPT_SIZE, NEAR_SIZE};
+use ring::Directions;
 use survey::{DeckChoice, Seat, Wish};
 use walking::{Next, Search, Step};
 
@@ -87,7 +88,7 @@ fn put_step(step: &Step<'_>, out: &mut [u8])
     // A walk is lent its array at each step, so it is no iterator.
     'candidates: while let Next::Reached(c, _) = next {
         let polygon = decks::packed(c.deck, c.polygon);
-        put_candidate(out, n, polygon, search.place_of(c));
+        put_candidate(out, n, polygon, search.spot(c).place());
         n += 1;
         next = search.after(c, &mut near);
     }
@@ -115,18 +116,18 @@ pub fn get_closest_points_on_layers(
     ensures { PointsReplied file.now p deck blocked.now out.old out.new result }
 {
     let ship = query_check(file, p, deck, blocked)?;
-    let table = ring::all_directions();
+    let directions = Directions::all();
     let seat = asked_at(p, deck);
     let mut kept = [0u32; KEPT_SIZE];
     let mut near = [0u32; NEAR_SIZE];
-    let found = placing::place_seat(&ship, blocked, &table, seat, &mut kept, &mut near);
+    let found = placing::place_seat(&ship, blocked, &directions, seat, &mut kept, &mut near);
     if records::unplaced(found) {
         return Ok(0);
     }
     let search = Search {
         ship: &ship,
         blocked,
-        table: &table,
+        directions: &directions,
         seat,
         kept: &kept,
     };
@@ -150,11 +151,11 @@ pub fn get_closest_point_on_layers(
     ensures { PointReplied file.now p deck blocked.now out.old out.new result }
 {
     let ship = query_check(file, p, deck, blocked)?;
-    let table = ring::all_directions();
+    let directions = Directions::all();
     let seat = asked_at(p, deck);
     let mut kept = [0u32; KEPT_SIZE];
     let mut near = [0u32; NEAR_SIZE];
-    let found = placing::place_seat(&ship, blocked, &table, seat, &mut kept, &mut near);
+    let found = placing::place_seat(&ship, blocked, &directions, seat, &mut kept, &mut near);
     if records::unplaced(found) {
         return Ok(0);
     }

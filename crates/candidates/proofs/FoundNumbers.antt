@@ -4,10 +4,8 @@ use native.Mathlib.Omega.{arith}
 use mathlib.Core.Path.{◌≡◌, refl, ap}
 use mathlib.Core.Bool.{Bool, true, false, not}
 use mathlib.Core.List.{List, [], map}
-use lib.IntN.{ℤ}
 use lib.ListN.{length}
 use Rattle.geometry.specs.declared.Vec2.{Vec2}
-use Rattle.ring.specs.Table.{directions}
 use Rattle.words.specs.Rows.{collect}
 use Rattle.answers.specs.Questions.{question17, question20}
 use Rattle.answers.specs.Replies.{Answer}
@@ -20,8 +18,9 @@ use Rattle.ship.specs.Decode.{decode}
 use Rattle.survey.specs.declared.Seat.{Seat}
 use Rattle.survey.specs.Search.{seat_record, candidates}
 use Rattle.walking.specs.Sees.{seen_by, SearchReady}
+use Rattle.walking.specs.Lists.{Sifted, WalkReady}
 use Rattle.calls.specs.Closest.{asked_at, closest_points}
-use Rattle.calls.proofs.Queries.{query_ready}
+use Rattle.calls.proofs.Queries.{query_ready, query_walk}
 use Rattle.calls.proofs.ClosestCalls.{no_points, points_are, points_count, step_below}
 use Rattle.touching.specs.Touching.{touches}
 use Rattle.touching.specs.Reach.{merged}
@@ -36,8 +35,11 @@ use Rattle.candidates.proofs.CandidateReplies.{deck_there, call_wide}
 
 -- ---- `put_found`
 module _ {file : List ℕ} {p : Vec2} {deck : ℕ} {blocked work : List ℕ} (ready : FoundReady file p deck blocked work) {seat : Seat} (is : seat ≡ asked_at p deck) where
-  pub found_ready : {table : List ℤ} → table ≡ directions → SearchReady file blocked table seat
-  found_ready t = query_ready file p deck blocked ready.passed refl t is
+  pub found_ready : SearchReady blocked seat
+  found_ready = query_ready file p deck blocked ready.passed is
+
+  pub found_walk : {kept : List ℕ} → Sifted file seat.place kept → WalkReady file blocked seat kept
+  found_walk sifted = query_walk file p deck blocked ready.passed refl is sifted
 
   module _ {found : SeatRecord} {u : Bool} (placed : found ≡ seat_record (seen_by file blocked seat) (decode file).steps) (asked : u ≡ is_unplaced found) where
     pub found_none : u ≡ true → {out out' work' : List ℕ} {r : Answer} → NumbersWorked [] out out' work work' r

@@ -4,7 +4,6 @@ use native.Mathlib.Omega.{arith}
 use mathlib.Core.Path.{◌≡◌, sym, ◌∙◌}
 use mathlib.Core.Bool.{Bool, true}
 use mathlib.Core.List.{List}
-use lib.IntN.{ℤ}
 use lib.ListN.{length, get_or, drop}
 use lib.Seq.{ext_get_or}
 use Rattle.words.specs.Bytes.{words_of, splice, number_at}
@@ -43,8 +42,8 @@ module _ (list xs : List ℕ) {list' : List ℕ} (put : list' ≡ splice list 0 
       get_d_rows (number_at list') (length xs) 0 k 0 b ∙ rw e (number_back k b))
 
 -- ---- `merge_numbers`
-module _ (s : ℕ) {file blocked : List ℕ} {table : List ℤ} {seat : Seat} {count : ℕ} (list : List ℕ) {list' array : List ℕ}
-    (ready : WalkReady file blocked table seat array) (counted : count ≡ length (candidates (seen_by file blocked seat) s))
+module _ (s : ℕ) {file blocked : List ℕ} {seat : Seat} {count : ℕ} (list : List ℕ) {list' array : List ℕ}
+    (ready : WalkReady file blocked seat array) (counted : count ≡ length (candidates (seen_by file blocked seat) s))
     (fits : number_size * count ≤ length list) (put : list' ≡ splice list 0 (words_of (step_numbers file blocked seat s))) where
   counts : count ≡ length (step_numbers file blocked seat s)
   counts = counted ∙ sym (numbers_length file blocked seat s)

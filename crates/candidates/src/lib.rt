@@ -13,6 +13,7 @@ use answers::{Answer, Refusal};
 use decks::Ship;
 use geometry::Vec2;
 use keeping::{KEPT_SIZE, NEAR_SIZE};
+use ring::Directions;
 use ship::NUMBER_SIZE;
 use walking::{Search, Step};
 
@@ -114,18 +115,18 @@ fn put_found(
     ensures { NumbersWorked (found_merged ship.now p deck blocked.now) out.old out.new
         work.old work.new result }
 {
-    let table = ring::all_directions();
+    let directions = Directions::all();
     let seat = calls::asked_at(p, deck);
     let mut kept = [0u32; KEPT_SIZE];
     let mut near = [0u32; NEAR_SIZE];
-    let found = placing::place_seat(ship, blocked, &table, seat, &mut kept, &mut near);
+    let found = placing::place_seat(ship, blocked, &directions, seat, &mut kept, &mut near);
     if records::unplaced(found) {
         return put_none(out, work);
     }
     let search = Search {
         ship,
         blocked,
-        table: &table,
+        directions: &directions,
         seat,
         kept: &kept,
     };

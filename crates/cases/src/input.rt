@@ -106,6 +106,7 @@ pub trait Case<'a>: Sized {
 // The answers to all cases. What is no case gives the one word `bad`, and nothing after it is read.
 pub fn print_answers<'a, C: Case<'a>, W: Write>(out: &mut W, cases: &'a [u8]) -> io::Result<()> {
     let mut input = Input { left: cases };
+    // A while: how long a case is shows when it is read.
     while !input.left.is_empty() {
         let Some(case) = C::read(&mut input) else {
             return out.write_all(b"bad\n");

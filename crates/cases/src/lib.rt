@@ -17,7 +17,7 @@ use std::io::{self, Write};
 // What every byte of lent memory is before a call.
 pub const FILL: u8 = 0xA5;
 
-// Bytes of a table's count.
+// Bytes of a table's count, as `loads` has them: this crate knows no call that it prints, so `COUNT_SIZE` stands here again.
 const COUNT_SIZE: usize = 8;
 
 // ---- lines
@@ -32,7 +32,7 @@ fn print_entry<W: Write>(out: &mut W, entry: &[u8]) -> io::Result<()> {
     out.write_all(b"\n")
 }
 
-// A line for each entry of `width` bytes.
+// A line for each entry of `width` bytes. A width is a constant of whoever prints; as `NonZeroUsize` it would have to be made there.
 fn print_entries<W: Write>(out: &mut W, entries: &[u8], width: usize) -> io::Result<()>
     requires { 0 < width }
 {
@@ -81,7 +81,7 @@ fn print_work<W: Write>(out: &mut W, answer: Answer, work: &[u8]) -> io::Result<
     }
 }
 
-// The answer of a call that counts parts of `size` bytes, with a line for every `width` of them.
+// The answer of a call that counts parts of `size` bytes, with a line for every `width` bytes.
 fn print_parts<W: Write>(
     out: &mut W,
     answer: Answer,
@@ -109,10 +109,11 @@ pub fn print_answer<W: Write>(
     print_parts(out, answer, width, width, lent)
 }
 
-// Makes a call that is lent `room` bytes, and prints its answer.
+// Makes a call that is lent `room` bytes and counts parts of `size` bytes, and prints its answer, with a line for every `width` bytes.
 pub fn print_call<const N: usize, W: Write, F: FnOnce(&mut [u8]) -> Answer>(
     out: &mut W,
     room: Room<N>,
+    size: usize,
     width: usize,
     call: F,
 ) -> io::Result<()>
@@ -123,25 +124,10 @@ pub fn print_call<const N: usize, W: Write, F: FnOnce(&mut [u8]) -> Answer>(
     let mut memory = [FILL; N];
     let lent = &mut memory[..room.size];
     let answer = call(lent);
-    print_answer(out, answer, width, lent)
+    print_parts(out, answer, size, width, lent)
 }
 
-// The same of a call that counts the bytes of a new file, which is printed a word a line.
-pub fn print_file_call<const N: usize, W: Write, F: FnOnce(&mut [u8]) -> Answer>(
-    out: &mut W,
-    room: Room<N>,
-    call: F,
-) -> io::Result<()>
-    requires one_object { N < 2 ^ 63 }
-    requires callable { F.IsAlwaysCallable call }
-{
-    let mut memory = [FILL; N];
-    let lent = &mut memory[..room.size];
-    let answer = call(lent);
-    print_parts(out, answer, 1, 4, lent)
-}
-
-// The same of a call that is lent work too.
+// The same of a call that is lent work too, and counts entries of `width` bytes.
 pub fn print_work_call<const N: usize, W: Write, F: FnOnce(&mut [u8], &mut [u8]) -> Answer>(
     out: &mut W,
     room: Room<N>,

@@ -4,10 +4,10 @@
 #![tactic(auto)]
 
 ghost use Rattle.std.specs.Prelude.{IfSome, ◌≡◌, ◌+◌, ◌*◌, ◌<◌, ◌≤◌, length};
-ghost use Rattle.ring.specs.Table.{directions};
 
 use cases::{float_of, print_word};
 use geometry::{Height, HeightSum, Vec2};
+use ring::{Directions, Ring};
 use std::io::{self, Write};
 
 // What a case's function says.
@@ -26,7 +26,8 @@ struct Word {
     real: f32,
 }
 
-// How many words a function's case has; none for a letter that is no function.
+// How many words a function's case has; none for a letter that is no function. The letter stays one: it is read, matched and printed, and an enum of
+// fourteen names would be matched as often.
 fn words_of(letter: u8) -> Option<usize>
     ensures { IfSome result (λ count. count ≤ 8) }
 {
@@ -89,15 +90,18 @@ fn point(words: &[Word; 8], k: usize) -> Vec2
     }
 }
 
-fn sample(t: &[i32; 2432], p: Vec2, reach: f32, step: u32, number: u32) -> Option<Value>
-    requires { t.now ≡ directions }
-{
+fn sample(directions: &Directions, p: Vec2, reach: f32, step: u32, number: u32) -> Option<Value> {
     let s = step as usize;
     let i = number as usize;
     if s >= 16 || i > 10 * s {
         return None;
     }
-    Some(Value::Point(ring::sample(t, p, reach, s, i)))
+    let ring = Ring {
+        center: p,
+        reach,
+        step: s,
+    };
+    Some(Value::Point(directions.sample(ring, i)))
 }
 
 fn probe(p: Vec2, reach: f32, number: u32) -> Option<Value> {
@@ -144,12 +148,10 @@ fn at_edge(letter: u8, words: &[Word; 8]) -> Option<Value> {
     }
 }
 
-fn case_answer(t: &[i32; 2432], letter: u8, words: &[Word; 8]) -> Option<Value>
-    requires { t.now ≡ directions }
-{
+fn case_answer(directions: &Directions, letter: u8, words: &[Word; 8]) -> Option<Value> {
     match letter {
         b'S' => sample(
-            t,
+            directions,
             point(words, 0),
             words[2].real,
             words[3].whole,
@@ -168,15 +170,15 @@ fn case_answer(t: &[i32; 2432], letter: u8, words: &[Word; 8]) -> Option<Value>
 }
 
 // The answer to a line, which ends with its newline; none for a line that is no case or asks for what the function does not take.
-fn line_answer(t: &[i32; 2432], line: &[u8]) -> Option<Value>
-    requires { (t.now ≡ directions) × (0 < length line.now) }
+fn line_answer(directions: &Directions, line: &[u8]) -> Option<Value>
+    requires { 0 < length line.now }
 {
     let letter = line[0];
     let count = words_of(letter)?;
     if line.len() != 9 * count + 2 || line[9 * count + 1] != b'\n' {
         return None;
     }
-    case_answer(t, letter, &read_words(line, count)?)
+    case_answer(directions, letter, &read_words(line, count)?)
 }
 
 // The bit pattern of a NaN cannot be asked for.
@@ -220,14 +222,12 @@ fn line_end(text: &[u8]) -> usize
     }
 }
 
-fn print_answers<W: Write>(out: &mut W, t: &[i32; 2432], text: &[u8]) -> io::Result<()>
-    requires { t.now ≡ directions }
-{
+fn print_answers<W: Write>(out: &mut W, directions: &Directions, text: &[u8]) -> io::Result<()> {
     let mut rest = text;
     // A while: where a line ends is found by looking.
     while !rest.is_empty() {
         let (line, later) = rest.split_at(line_end(rest));
-        print_answer(out, line[0], line_answer(t, line))?;
+        print_answer(out, line[0], line_answer(directions, line))?;
         rest = later;
     }
     Ok(())
@@ -237,5 +237,5 @@ fn print_answers<W: Write>(out: &mut W, t: &[i32; 2432], text: &[u8]) -> io::Res
 fn main(rt: HostRuntime) -> io::Result<()> {
     let mut buffer = [0u8; 65536];
     let n = reading::read_full(&mut rt.stdin(), &mut buffer)?;
-    print_answers(&mut rt.stdout(), &ring::all_directions(), &buffer[..n])
+    print_answers(&mut rt.stdout(), &Directions::all(), &buffer[..n])
 }

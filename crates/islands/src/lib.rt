@@ -1,5 +1,6 @@
 // The label of each polygon of a deck: the least number that reaches it (document 01, section 8, `bake_islands_detection`).
-// Output and work are the caller's memory, as C lends it, so places in them are numbers: nothing is allocated.
+// Output and work are the caller's memory, as C lends it, so places in them are numbers: nothing is allocated. Labels, queue and the queue's end are
+// three parameters: each function of the walk writes both and moves the end, and a type of the three would be lent on at each call.
 #![tactic(auto)]
 
 ghost use Rattle.std.specs.Prelude.{◌≡◌, ◌||◌, ◌++◌, ◌+◌, ◌*◌, ◌≤◌, ◌<◌, eqb, ltb, length, drop, replicate};

@@ -3,7 +3,6 @@
 #![tactic(auto)]
 
 ghost use Rattle.std.specs.Prelude.{◌≡◌, ◌+◌, ◌^◌, ◌≤◌, ◌<◌, [], length};
-ghost use Rattle.ring.specs.Table.{directions};
 ghost use Rattle.search.specs.OnDeck.{deck_turn, next_hit};
 ghost use Rattle.keeping.specs.Kept.{sought_at, sought_count, KeptAt, RingKept};
 ghost use Rattle.keeping.specs.Lists.{list_at, numbers_at, with_list, LiesIn, ListsRoom};
@@ -11,6 +10,7 @@ ghost use Rattle.keeping.specs.Lists.{list_at, numbers_at, with_list, LiesIn, Li
 use decks::Deck;
 use geometry::Vec2;
 use hits::Hit;
+use ring::{Directions, Ring};
 
 // The polygons that a search looks at: those whose numbers stand in a list, and every one from number `rest` on.
 #[derive(Clone, Copy, Debug, PartialEq, Eq)]
@@ -27,7 +27,8 @@ pub struct ListPlace {
     pub rest: usize,
 }
 
-// Numbers at the front of the array that say where a deck's list stands, and of those of 256 decks.
+// Numbers at the front of the array that say where a deck's list stands, and of those of 256 decks. Three numbers a deck, and no array of `ListPlace`:
+// the lists' own numbers stand behind them in the one array that a caller lends.
 const LIST_SIZE: usize = 3;
 
 pub const LISTS_SIZE: usize = 768;
@@ -105,28 +106,26 @@ pub fn sought(kept: Kept<'_>, j: usize) -> usize
     }
 }
 
-// The turn of a deck in step s around p, in the deck's own coordinates: the first sample that hits ends it. Where the list has nothing to look at, no
-// sample is made.
+// The turn of a deck over a ring, in the deck's own coordinates: the first sample that hits ends it. Where the list has nothing to look at, no sample
+// is made.
 pub fn first_hit(
     deck: &Deck<'_>,
-    table: &[i32; 2432],
-    p: Vec2,
-    reach: f32,
-    s: usize,
+    directions: &Directions,
+    ring: Ring,
     kept: Kept<'_>,
 ) -> Option<Hit>
-    requires { (table.now ≡ directions) × ((s < 16) × RingKept deck.now kept.numbers.now kept.rest p reach s) }
-    ensures { result ≡ deck_turn deck.now p reach s }
+    requires { RingKept deck.now kept.numbers.now kept.rest ring.center ring.reach ring.step }
+    ensures { result ≡ deck_turn deck.now ring.center ring.reach ring.step }
 {
     let count = sought_count(deck.polygon_count(), kept);
     if count == 0 {
         return None;
     }
-    let samples = 10 * s + 1;
+    let samples = 10 * ring.step + 1;
     let mut i: usize = 0;
     // A loop over the samples, not a for: it has a value, the hit that a labelled break takes out of both loops.
     'samples: loop {
-        let q = ring::sample(table, p, reach, s, i);
+        let q = directions.sample(ring, i);
         'polygons: for j in 0..count {
             let polygon = sought(kept, j);
             if search::point_in_polygon(deck, polygon, q) {

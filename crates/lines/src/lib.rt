@@ -1,5 +1,5 @@
 // The lines of `seatlist` as bytes (document 01, section 7), and question 21. A line is made in room of its own and put at a position of
-// the text; the position after it is answered.
+// the text; the position after it is answered. The text is any caller's memory.
 #![tactic(auto)]
 
 ghost use Rattle.std.specs.Prelude.{◌≡◌, true, ◌+◌, ◌≤◌, [], ◌∷◌, ◌++◌, length};
@@ -12,6 +12,7 @@ ghost use Rattle.lines.specs.Input.{question21};
 
 use arrayvec::ArrayVec;
 use records::SeatRecord;
+use words::PACKED_DECK;
 
 // A line while it is made; it never allocates. None has more than 121 bytes.
 type Line = ArrayVec<u8, 128>;
@@ -94,7 +95,7 @@ fn add_bits(line: &mut Line, n: u32)
     add_hex(line, n)
 }
 
-// A space, and the height's bits or `-`.
+// A space, and the height's bits or `-`. The kind is the record's number.
 fn add_height(line: &mut Line, kind: u32, bits: u32)
     requires { array_vec_len line.old + 9 ≤ 128 }
     ensures text { line.new.items ≡ line.old.items ++ field (height_field kind bits) }
@@ -106,9 +107,6 @@ fn add_height(line: &mut Line, kind: u32, bits: u32)
         add_bits(line, bits)
     }
 }
-
-// A packed number is deck · 2^24 + polygon.
-const PACKED_DECK: u32 = 1 << 24;
 
 // The deck, and the polygon in its deck.
 fn add_polygon(line: &mut Line, polygon: u32)

@@ -3,7 +3,7 @@ use Prim.Native.Nat.{ℕ, ◌+◌, ◌-◌, ◌*◌, ◌≤◌, ◌<◌}
 use native.Mathlib.Omega.{arith}
 use mathlib.Core.Path.{◌≡◌, refl, sym, ap}
 use mathlib.Core.Bool.{Bool, true, not}
-use mathlib.Core.List.{List}
+use mathlib.Core.List.{List, [], append-nil}
 use lib.ListN.{length, take, drop, length-drop}
 use lib.Seq.{length-take-le, take_at, take_all}
 use Rattle.words.specs.Bytes.{u32_at, splice, Put}
@@ -26,7 +26,7 @@ use Rattle.ship.specs.Decode.{decode}
 use Rattle.seat_run.specs.Run.{run_records, run_reply}
 use Rattle.seat_run.proofs.RunRecords.{run_length, reply_long}
 use Rattle.listing.specs.Listing.{seats_in, seat_lines, placed_in, unplaced_in, run_text, list_text, seatlist_text, text_reply}
-use Rattle.listing.specs.Sizes.{most_seats, seats_size, records_size, text_size, Written}
+use Rattle.listing.specs.Sizes.{most_seats, seats_size, records_size, text_size, record_count, records_of, Written}
 use Rattle.listing.proofs.Records.{all_counted}
 
 -- ---- text at the start
@@ -69,12 +69,23 @@ module _ (file blocked seats : List ℕ) where
     pub ran_room : {count : ℕ} → r ≡ Ok count → record_size * count ≤ length out'
     ran_room w = omega (arith, wrote_count replied w, (wrote_check replied w).1, records_length (run_records file blocked seats), replied_length replied)
 
-    pub ran_wrote : {count n : ℕ} {s t : List ℕ} → r ≡ Ok count → Written s (run_text (Ok tt) (records_in out' count)) t n → Written s (list_text file blocked seats) t n
+    -- the bytes that were written are the records
+    ran_bytes : {count : ℕ} → r ≡ Ok count → take (record_size * count) out' ≡ records_bytes (run_records file blocked seats)
+    ran_bytes {count} w =
+        let rs = run_records file blocked seats in
+        let rest = drop (length (records_bytes rs)) out in
+        rw (wrote_bytes replied w) (take_at (records_bytes rs) rest (record_size * count) (omega (arith, wrote_count replied w, records_length rs)))
+
+    pub ran_count : {count : ℕ} → r ≡ Ok count → record_count (take (record_size * count) out') ≤ most_seats
+    ran_count w = omega (arith, length-take-le _ out' (ran_room w), ran_few w)
+
+    pub ran_wrote : {count n : ℕ} {s t : List ℕ} → r ≡ Ok count → Written s (run_text (Ok tt) (records_of (take (record_size * count) out'))) t n
+        → Written s (list_text file blocked seats) t n
     unfolding list_text
     ran_wrote {count} {n} {s} {t} w p =
         let rs = run_records file blocked seats in
-        let rest = drop (length (records_bytes rs)) out in
-        let e : records_in out' count ≡ rs = rw (wrote_bytes replied w, wrote_count replied w) (records_written rs rest) in
+        let k : record_count (records_bytes rs) ≡ length rs = omega (arith, records_length rs) in
+        let e : records_of (take (record_size * count) out') ≡ rs = rw (ran_bytes w, k) (rw append-nil at (records_written rs [])) in
         rw (wrote_check replied w).0 (rw e at p)
 
     pub ran_refused : {refusal : Refusal} {number n : ℕ} {s t : List ℕ} → r ≡ Err refusal → number ≡ number_of refusal → records_size ≤ length out → Put s 0 (refused_line number) t n
@@ -126,6 +137,7 @@ pub ruleset texts = (
   records_put,
   ran_few,
   ran_room,
+  ran_count,
   ran_wrote,
   ran_refused,
   said_yes,

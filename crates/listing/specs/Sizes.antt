@@ -1,7 +1,8 @@
 -- The most that an input can hold that passed question 21, and the room that its text takes.
-use Rattle.std.specs.Prelude.{ℕ, ◌+◌, ◌*◌, ◌≤◌, List, length}
+use Rattle.std.specs.Prelude.{ℕ, ◌+◌, ◌*◌, ◌/◌, ◌≤◌, List, length}
 use Rattle.words.specs.Bytes.{Put}
-use Rattle.records.specs.Record.{record_size}
+use Rattle.records.specs.declared.SeatRecord.{SeatRecord}
+use Rattle.records.specs.Record.{record_size, records_in}
 
 -- 65,536 bytes, less a length and a blocked set, and 20 bytes a seat
 abbrev pub seats_size : ℕ
@@ -21,9 +22,16 @@ text_size = 128 * most_seats + 128
 abbrev pub longest_text : ℕ
 longest_text = 192 * most_seats + 192
 
--- so many records are there, and there is room for their lines
-abbrev pub Room : List ℕ → List ℕ → ℕ → Type 0
-Room text records count = (count ≤ most_seats) × (record_size * count ≤ length records) × (text_size ≤ length text)
+-- bytes that are records alone: how many, and which
+abbrev pub record_count : List ℕ → ℕ
+record_count s = length s / record_size
+
+abbrev pub records_of : List ℕ → List SeatRecord
+records_of s = records_in s (record_count s)
+
+-- no more records than an input can ask for, and there is room for their lines
+abbrev pub Room : List ℕ → List ℕ → Type 0
+Room text records = (record_count records ≤ most_seats) × (text_size ≤ length text)
 
 -- text with these bytes at its start, and how many there are: no more than fit
 abbrev pub Written : List ℕ → List ℕ → List ℕ → ℕ → Type 0

@@ -1,22 +1,23 @@
 // The text of `seatlist` from the bytes that it reads (document 01, section 7). Text and records stand in arrays of the most that an input
-// can ask for, with the length of what is used beside them: a run writes into what it is lent, and nothing is allocated.
+// can ask for: a run writes into what it is lent, and nothing is allocated.
 #![tactic(auto)]
 
 ghost use Rattle.std.specs.Prelude.{◌≡◌, ◌*◌, ◌≤◌, length, Ok};
 ghost use Rattle.words.specs.Bytes.{Put};
 ghost use Rattle.answers.specs.Replies.{Replied};
-ghost use Rattle.records.specs.Record.{record_size, records_in};
 ghost use Rattle.listing.specs.Listing.{seat_lines, placed_in, run_text, list_text, seatlist_text, text_reply};
-ghost use Rattle.listing.specs.Sizes.{seats_size, records_size, text_size, most_seats, Room, Written};
+ghost use Rattle.listing.specs.Sizes.{seats_size, records_size, text_size, most_seats, record_count, records_of, Room, Written};
 
 use answers::{Answer, Refusal};
+use records::RECORD_SIZE;
 
 // A line a seat, in list order.
-fn put_seats(text: &mut [u8], records: &[u8], count: usize) -> usize
-    requires { Room text.old records.now count }
-    ensures put { Put text.old 0 (seat_lines 0 (records_in records.now count)) text.new result }
-    ensures upper_bound { result ≤ 128 * count }
+fn put_seats(text: &mut [u8], records: &[u8]) -> usize
+    requires { Room text.old records.now }
+    ensures put { Put text.old 0 (seat_lines 0 (records_of records.now)) text.new result }
+    ensures upper_bound { result ≤ 128 * record_count records.now }
 {
+    let count = records.len() / RECORD_SIZE;
     let mut at: usize = 0;
     'seats: for i in 0..count {
         at = lines::put_seat(text, at, i as u32, records::record_at(records, i));
@@ -24,22 +25,23 @@ fn put_seats(text: &mut [u8], records: &[u8], count: usize) -> usize
     at
 }
 
-fn count_placed(records: &[u8], count: usize) -> u32
-    requires { (count ≤ most_seats) × (record_size * count ≤ length records.now) }
-    ensures { (result ≡ placed_in (records_in records.now count)) × (result ≤ count) }
+fn count_placed(records: &[u8]) -> u32
+    requires { record_count records.now ≤ most_seats }
+    ensures { (result ≡ placed_in (records_of records.now)) × (result ≤ record_count records.now) }
 {
-    (0..count)
+    (0..records.len() / RECORD_SIZE)
         .filter(|&i| !records::unplaced(records::record_at(records, i)))
         .count() as u32
 }
 
 // The lines of a run that was not refused.
-fn put_records(text: &mut [u8], records: &[u8], count: usize) -> usize
-    requires { Room text.old records.now count }
-    ensures { Written text.old (run_text (Ok tt) (records_in records.now count)) text.new result }
+fn put_records(text: &mut [u8], records: &[u8]) -> usize
+    requires { Room text.old records.now }
+    ensures { Written text.old (run_text (Ok tt) (records_of records.now)) text.new result }
 {
-    let end = put_seats(text, records, count);
-    let placed = count_placed(records, count);
+    let count = records.len() / RECORD_SIZE;
+    let end = put_seats(text, records);
+    let placed = count_placed(records);
     lines::put_end(text, end, placed, count as u32 - placed)
 }
 
@@ -51,7 +53,7 @@ fn put_run(text: &mut [u8], records: &mut [u8], file: &[u8], blocked: &[u8], sea
 {
     match seat_run::run(file, blocked, seats, records) {
         Err(refusal) => lines::put_refused(text, 0, refusal.number()),
-        Ok(count) => put_records(text, records, count),
+        Ok(count) => put_records(text, &records[..RECORD_SIZE * count]),
     }
 }
 

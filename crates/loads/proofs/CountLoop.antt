@@ -7,6 +7,7 @@ use mathlib.Core.List.{List, [], ◌∷◌, ◌++◌}
 use lib.IntN.{ℤ}
 use lib.ListN.{length, get_or, take}
 use lib.Seq.{take-suc, take_all, length-take-le}
+use Rattle.std.specs.Prelude.{Ok}
 use Rattle.words.specs.Bytes.{splice, counts_of}
 use Rattle.words.specs.Rows.{rows, collect, collect_all}
 use Rattle.words.proofs.Counts.{length_counts}
@@ -15,8 +16,7 @@ use Rattle.records.specs.Record.{record_size, record_bytes, is_unplaced}
 use Rattle.records.proofs.ReadBack.{no_record}
 use Rattle.ship.specs.Decode.{decode}
 use Rattle.seat_run.specs.SeatFile.{seat_count}
-use Rattle.seat_run.specs.Run.{record_of_seat, run_records, RecordsRoom}
-use Rattle.seat_run.specs.Ready.{RunReady}
+use Rattle.seat_run.specs.Run.{record_of_seat, run_records, RecordsRoom, run_check}
 use Rattle.seat_run.proofs.RunRecords.{run_at, run_length}
 use Rattle.seat_run.proofs.RunLoop.{Recording, recording_all, recording_none, recording_more, recording_long, recording_room}
 use Rattle.loads.specs.Sheet.{ship_labels, on_deck, stands_at, own_place, island_place, polygon_load, island_load, deck_load, unplaced_load, each_polygon, sheet_of}
@@ -103,9 +103,9 @@ module _ {file blocked seats out₀ out table work : List ℕ} {i : ℕ} (t : Co
       taken : length (take i (run_records file blocked seats)) ≡ i
       taken = length-take-le i (run_records file blocked seats) (omega (arith, run_length (decode file) blocked seats))
 
-      module _ {directions : List ℤ} (ready : RunReady file blocked directions seats) {r : SeatRecord} (is : r ≡ record_of_seat (decode file) blocked seats i) where
+      module _ (passed : run_check file blocked seats ≡ Ok tt) {r : SeatRecord} (is : r ≡ record_of_seat (decode file) blocked seats i) where
         aboard : Aboard (decode file) r.polygon
-        aboard = rw is (record_aboard file blocked seats ready.passed i (omega arith))
+        aboard = rw is (record_aboard file blocked seats passed i (omega arith))
 
         pub counting_ready : {own : List ℕ} → own ≡ file → length seats < 2 ^ 64 → CountReady (decode own) r.polygon table work
         counting_ready same long =

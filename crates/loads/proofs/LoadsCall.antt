@@ -18,13 +18,13 @@ use Rattle.std.specs.Prelude.{Result, Ok, Err}
 use Rattle.answers.specs.declared.Refusal.{Refusal}
 use Rattle.decks.specs.Opened.{opened}
 use Rattle.decks.proofs.Opening.{opened_err, opened_ok}
-use Rattle.seat_run.specs.Ready.{RunReady}
 use Rattle.answers.specs.declared.Refusal.TheVariants.{NoRoom}
 use Rattle.records.specs.Record.{record_size}
 use Rattle.ship.specs.Layout.{number_size, decks_in}
 use Rattle.ship.specs.Model.{polygon_total}
 use Rattle.ship.specs.Decode.{decode}
 use Rattle.ship.proofs.ModelFacts.{decks_length}
+use Rattle.seat_run.specs.Run.{run_check}
 use Rattle.seat_run.specs.SeatFile.{seat_count}
 use Rattle.seat_run.specs.Survey.{Surveyed}
 use Rattle.seat_run.specs.Blocked.{BlockedUnplaced}
@@ -120,8 +120,8 @@ module _ (file blocked seats : List ℕ) {r : Result (List ℕ) Refusal} (asked 
     ship_is : ship ≡ file
     ship_is = (opened_ok (loads_check file blocked seats) file (sym asked ∙ opens)).1
 
-    pub call_run : {all : List ℤ} → all ≡ directions → RunReady ship blocked all seats
-    call_run d = record { passed = rw ship_is (loads_parts file blocked seats passed).0; table_is = d }
+    pub call_run : run_check ship blocked seats ≡ Ok tt
+    call_run = rw ship_is (loads_parts file blocked seats passed).0
 
     module _ {fits : Bool} (said : fits ≡ rooms_fit (decode ship) (seat_count seats) (length out) (length table) (length work)) where
       abbrev out_fits : Bool

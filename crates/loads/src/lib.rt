@@ -1,5 +1,5 @@
-// The seat run with a load sheet beside the records (document 02, point 4). Table and work are
-// the caller's memory, as C lends it, so places in them are numbers: nothing is allocated.
+// The seat run with a load sheet beside the records (document 02, point 4). Table and work are the caller's memory, as C lends it, so places in them
+// are numbers: nothing is allocated.
 #![tactic(auto)]
 
 ghost use Rattle.std.specs.Prelude.{◌≡◌, ◌+◌, ◌*◌, ◌^◌, ◌≤◌, ◌<◌, length};
@@ -24,6 +24,7 @@ use answers::{Answer, Check, Refusal};
 use decks::Ship;
 use keeping::{KEPT_SIZE, NEAR_SIZE};
 use records::RECORD_SIZE;
+use ring::Directions;
 use seat_run::{Lists, SEAT_SIZE, SeatRun};
 use ship::NUMBER_SIZE;
 
@@ -160,7 +161,8 @@ impl<'a> Places<'a> {
     }
 }
 
-// One pass over the seats: each is placed, its record written, and counted.
+// One pass over the seats: each is placed, its record written, and counted. Output, table and work stay apart here, in `put_sheet` and in `put_table`: the
+// last cuts the table, `put_sheet` fills and clears the work, and this reads it, so that a type of the three would be taken apart in each.
 fn put_counts(
     run: &SeatRun<'_>,
     out: &mut [u8],
@@ -241,11 +243,11 @@ pub fn run_loads(
     if !rooms_fit(&ship, count, out.len(), table.len(), work.len()) {
         return Err(Refusal::NoRoom);
     }
-    let directions = ring::all_directions();
+    let directions = Directions::all();
     let run = SeatRun {
         ship: &ship,
         blocked,
-        table: &directions,
+        directions: &directions,
         seats,
     };
     put_table(&run, out, table, work);

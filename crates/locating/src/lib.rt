@@ -1,8 +1,7 @@
 // On which polygon a point is, looked for at nine probes a deck (document 01, section 8).
 #![tactic(auto)]
 
-ghost use Rattle.std.specs.Prelude.{◌≡◌, ◌*◌, ◌<◌, ◌≤◌, length, take, slice_get};
-ghost use Rattle.words.specs.Bytes.{words_of};
+ghost use Rattle.std.specs.Prelude.{◌≡◌, ◌<◌, slice_get};
 ghost use Rattle.ship.specs.Layout.{decks_in};
 ghost use Rattle.answers.specs.Replies.{code_of};
 ghost use Rattle.ship.specs.Decode.{decode};
@@ -10,6 +9,7 @@ ghost use Rattle.decks.specs.Opened.{opened};
 ghost use Rattle.locating.specs.Locating.{probe_hit, hit_on, point_layer, point_check, location_of, LayerReplied};
 
 use answers::{Answer, Refusal};
+use arrayvec::ArrayVec;
 use decks::{Deck, Ship};
 use geometry::Vec2;
 use hits::Hit;
@@ -66,7 +66,7 @@ fn locate(ship: &Ship<'_>, p: Vec2, deck: u32) -> Option<u32>
     None
 }
 
-// The packed polygon, all ones where there is none.
+// The packed polygon, or all ones, the number of none that document 01 gives to the call, and C to its caller.
 pub fn get_point_location(file: &[u8], p: Vec2, deck: u32) -> Result<u32, Refusal>
     ensures { result ≡ location_of file.now p deck }
 {
@@ -74,25 +74,21 @@ pub fn get_point_location(file: &[u8], p: Vec2, deck: u32) -> Result<u32, Refusa
     Ok(locate(&ship, p, deck).unwrap_or(words::ALL_ONES))
 }
 
-// The polygons of all decks that have one, at the front of a list with room for one a deck. How many they are is returned.
-fn list_layers(ship: &Ship<'_>, p: Vec2, deck: u32, list: &mut [u8]) -> usize
-    requires { 1024 ≤ length list.old }
-    ensures { (result ≡ length (point_layer ship.now p deck)) × ((4 * result ≤ length list.new)
-        × (take (4 * result) list.new ≡ words_of (point_layer ship.now p deck))) }
+// The polygons of all decks that have one, packed: at most one a deck, and a ship has at most 256. No heap is needed.
+#[tactic(auto, using(crate::proofs::DeckLoop::listing))]
+fn list_layers(ship: &Ship<'_>, p: Vec2, deck: u32) -> ArrayVec<u32, 256>
+    ensures { result.items ≡ point_layer ship.now p deck }
 {
     let count = ship.deck_count();
-    let mut n: usize = 0;
+    let mut list = ArrayVec::new();
     'decks: for d in 0..count {
-        if !answers::looks_at(deck, d) {
-            continue;
+        if answers::looks_at(deck, d) {
+            if let Some(hit) = hit_on(ship, p, d) {
+                list.push(decks::packed(d, hit.polygon));
+            }
         }
-        let Some(hit) = hit_on(ship, p, d) else {
-            continue;
-        };
-        words::put_u32(list, NUMBER_SIZE * n, decks::packed(d, hit.polygon));
-        n += 1;
     }
-    n
+    list
 }
 
 // They are listed first, since question 20 comes before a byte is written.
@@ -100,14 +96,12 @@ pub fn get_point_layer(file: &[u8], p: Vec2, deck: u32, out: &mut [u8]) -> Answe
     ensures { LayerReplied file.now p deck out.old out.new result }
 {
     let ship = point_check(file, p)?;
-    // Room for a number a deck, of which there are at most 256: no heap is needed.
-    let mut list = [0u8; 1024];
-    let count = list_layers(&ship, p, deck, &mut list);
-    if !answers::room_for(NUMBER_SIZE, count, out.len()) {
+    let list = list_layers(&ship, p, deck);
+    if !answers::room_for(NUMBER_SIZE, list.len(), out.len()) {
         return Err(Refusal::NoRoom);
     }
-    words::put_front(&list, NUMBER_SIZE * count, out);
-    Ok(count)
+    words::put_words(out, 0, list.as_slice());
+    Ok(list.len())
 }
 
 // The location over C: the packed polygon, or minus the question's number. No `From`: no type in it is of this crate.

@@ -13,7 +13,7 @@ use Rattle.words.specs.Rows.{has}
 use Rattle.words.proofs.Collecting.{holds}
 use Rattle.ship.specs.Layout.{number_size}
 use Rattle.ship.specs.Decode.{decode}
-use Rattle.touching.specs.Touching.{touches, TouchReady}
+use Rattle.touching.specs.Touching.{touches, PolygonThere}
 use Rattle.touching.specs.Reach.{Chain, here, on}
 use Rattle.merging.specs.Flood.{Reordered, SwapReady, Swapped, PartReady, Parted, FloodReady, Flooded}
 use Rattle.merging.proofs.Places.{number_before, reordered_none, reordered_from, reordered_again, reordered_swap}
@@ -42,7 +42,7 @@ parting_none r =
     }
 
 module _ {file list₀ list : List ℕ} {a t n i w : ℕ} (p : Parting file list₀ list a t n i w) where
-  pub parting_touch : TouchReady file a
+  pub parting_touch : PolygonThere file a
   parting_touch = p.ready.touch
 
   pub parting_all : i ≤ t → Parted file list₀ list a n t w
@@ -160,7 +160,7 @@ module _ {file list₀ list : List ℕ} {head n h t : ℕ} (f : Flooding file li
           let e = f.flooded.reordered.long in
           let s = (reordered_from f.flooded.reordered {u = head} (omega arith)).old h f.low (omega (arith, f.flooded.high)) in
           record {
-            touch = record { there = rw (is, s.is) (f.ready.there s.place s.low s.high) };
+            touch = rw (is, s.is) (f.ready.there s.place s.low s.high);
             low = f.flooded.high;
             room = omega (arith, f.ready.room);
             rising = f.flooded.rising;

@@ -4,7 +4,7 @@ use Rattle.words.specs.Bytes.{byte_at, number_at}
 use Rattle.words.specs.Rows.{has}
 use Rattle.ship.specs.Layout.{number_size}
 use Rattle.ship.specs.Decode.{decode}
-use Rattle.touching.specs.Touching.{touches, PolygonThere, TouchReady}
+use Rattle.touching.specs.Touching.{touches, PolygonThere}
 use Rattle.touching.specs.Reach.{Chain}
 
 -- ---- places
@@ -40,7 +40,7 @@ pub record Swapped (list list' : List ℕ) (i w : ℕ) : Type 0 where
 
 -- ---- `part`
 pub record PartReady (file list : List ℕ) (a t n : ℕ) : Type 0 where
-  pub touch : TouchReady file a
+  pub touch : PolygonThere file a
   pub low : t ≤ n
   pub room : number_size * n ≤ length list
   pub rising : RisingFrom list t n

@@ -1,5 +1,5 @@
 // Candidates that an earlier one reaches are dropped from their list (document 01, section 8; the Rust's `merge_touching_readings`).
-// The list is merged in the caller's memory, as C lends it, so its parts are told apart by numbers: nothing is allocated.
+// The list is merged in the caller's memory, as C lends it, so its parts, and where it ends there, are told apart by numbers: nothing is allocated.
 #![tactic(auto)]
 
 ghost use Rattle.merging.specs.Merging.{ListReady, ListMerged};

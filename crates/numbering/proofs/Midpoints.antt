@@ -5,7 +5,6 @@ use mathlib.Core.Path.{◌≡◌, refl, sym, ap, ◌∙◌}
 use mathlib.Core.Bool.{Bool, true, false, not, cond}
 use mathlib.Core.List.{List, [], ◌∷◌, ◌++◌}
 use lib.Dec.{T}
-use lib.IntN.{ℤ}
 use lib.ListN.{length, get_or}
 use lib.Count.{count_leading_zeros, leading_length}
 use borrow.Author.Tests.{not-true, not-false}
@@ -17,7 +16,7 @@ use Rattle.ship.specs.Decode.{decode}
 use Rattle.ship.specs.Questions.{first_no}
 use Rattle.survey.specs.declared.Seat.{Seat}
 use Rattle.survey.specs.Search.{candidates}
-use Rattle.touching.specs.Touching.{touches, TouchReady}
+use Rattle.touching.specs.Touching.{touches, PolygonThere}
 use Rattle.touching.specs.Reach.{drops, merged}
 use Rattle.touching.proofs.Reaching.{has_at, within_start}
 use Rattle.touching.proofs.Doubling.{through, twice, one_hop, enough_hops}
@@ -49,15 +48,15 @@ pub record ReachReady (file blocked : List ℕ) (seat : Seat) (s count a b : ℕ
   pub start : T (has (step_numbers file blocked seat s) a)
   pub end : T (has (step_numbers file blocked seat s) b)
 
-pub reach_ready : {file blocked : List ℕ} {table : List ℤ} {seat : Seat} {array : List ℕ} {s count a b : ℕ} → WalkReady file blocked table seat array
+pub reach_ready : {file blocked : List ℕ} {seat : Seat} {array : List ℕ} {s count a b : ℕ} → WalkReady file blocked seat array
     → count ≡ length (candidates (seen_by file blocked seat) s)
     → T (has (step_numbers file blocked seat s) a) × T (has (step_numbers file blocked seat s) b) → ReachReady file blocked seat s count a b
 reach_ready {file} {blocked} {seat = seat} {s = s} ready counts ends =
     record { passed = walk_passed ready; counts = counts ∙ sym (numbers_length file blocked seat s); start = ends.0; end = ends.1 }
 
 module _ {file blocked : List ℕ} {seat : Seat} {s count a b : ℕ} (ready : ReachReady file blocked seat s count a b) where
-  pub reach_touch : TouchReady file a
-  reach_touch = record { there = numbers_there file blocked seat s a ready.passed ready.start }
+  pub reach_touch : PolygonThere file a
+  reach_touch = numbers_there file blocked seat s a ready.passed ready.start
 
   pub reach_same : (k : ℕ) → a ≡ b → true ≡ step_reach file blocked seat s (2 ^ k) a b
   reach_same k e = rw e (sym (within_start (touches (decode file)) (step_numbers file blocked seat s) (2 ^ k) b))

@@ -5,7 +5,6 @@ use mathlib.Core.Path.{◌≡◌, sym, ap, ◌∙◌}
 use mathlib.Core.List.{List}
 use mir.Syntax.{w64}
 use mir.Val.{Fits}
-use lib.IntN.{ℤ}
 use lib.ListN.{length, get_or, length-map, get_or-eq_default, get_or-map}
 use Rattle.words.specs.Bytes.{bytes4, words_of, splice}
 use Rattle.words.proofs.Writing.{Rest, rest_all, rest_more, rest_none, length_bytes4}
@@ -52,7 +51,7 @@ pub record Putting (file blocked : List ℕ) (seat : Seat) (s : ℕ) (list₀ li
   pub room : number_size * length (step_numbers file blocked seat s) ≤ length list₀
   pub rest : Rest bytes4 number_size 0 list₀ 0 (step_numbers file blocked seat s) list n
 
-pub putting_all : {file blocked : List ℕ} {table : List ℤ} {seat : Seat} {s : ℕ} {list array : List ℕ} {next : Next} → WalkReady file blocked table seat array
+pub putting_all : {file blocked : List ℕ} {seat : Seat} {s : ℕ} {list array : List ℕ} {next : Next} → WalkReady file blocked seat array
     → number_size * length (step_numbers file blocked seat s) ≤ length list → WalkedStep file (seen_by file blocked seat) s next
     → Putting file blocked seat s list list 0 next
 putting_all ready fits w = record { passes = passing_all ready w; room = fits; rest = rest_all }

@@ -11,7 +11,7 @@
 #![tactic(auto)]
 
 use answers::Refusal;
-use cases::{Input, Room, print_call, print_file_call, print_word, print_work_call};
+use cases::{Input, Room, print_call, print_word, print_work_call};
 use geometry::Vec2;
 use std::io::{self, Write};
 
@@ -119,7 +119,7 @@ impl<'a> cases::Case<'a> for Case<'a> {
         } = self;
         match call {
             Call::PointLocation => print_location(out, locating::get_point_location(file, p, deck)),
-            Call::PointLayer => print_call(out, room, 4, |lent| {
+            Call::PointLayer => print_call(out, room, 4, 4, |lent| {
                 locating::get_point_layer(file, p, deck, lent)
             }),
             Call::CandidatePolygons => print_work_call(out, room, work, 4, |lent, work| {
@@ -128,16 +128,16 @@ impl<'a> cases::Case<'a> for Case<'a> {
             Call::Islands => print_work_call(out, room, work, 4, |lent, work| {
                 islands::bake_islands_detection(file, deck, lent, work)
             }),
-            Call::StitchPoints => print_call(out, room, 16, |lent| {
+            Call::StitchPoints => print_call(out, room, 16, 16, |lent| {
                 stitching::find_stitch_points(file, lent)
             }),
-            Call::RemoveStitches => print_file_call(out, room, |lent| {
+            Call::RemoveStitches => print_call(out, room, 1, 4, |lent| {
                 removal::remove_stitches(file, lent)
             }),
-            Call::RemoveStitchesToLayer(layer) => print_file_call(out, room, |lent| {
+            Call::RemoveStitchesToLayer(layer) => print_call(out, room, 1, 4, |lent| {
                 removal::remove_stitches_to_layer(file, layer, lent)
             }),
-            Call::ClosestPointTowards(towards) => print_call(out, room, 12, |lent| {
+            Call::ClosestPointTowards(towards) => print_call(out, room, 12, 12, |lent| {
                 towards::get_closest_point_towards(file, p, towards, deck, lent)
             }),
         }

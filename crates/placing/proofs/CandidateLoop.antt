@@ -6,7 +6,6 @@ use native.Mathlib.Omega.{arith}
 use native.Mathlib.Nat.{add_assoc}
 use mir.Syntax.{w64}
 use mir.Val.{Fits}
-use lib.IntN.{ℤ}
 use lib.ListN.{length}
 use Rattle.geometry.specs.declared.Vec2.{Vec2}
 use Rattle.geometry.specs.declared.Height.{Height}
@@ -22,7 +21,7 @@ use Rattle.walking.specs.Sees.{shown_by, seen_by, CandidateIn}
 use Rattle.walking.specs.Lists.{WalkReady}
 use Rattle.walking.specs.Walk.{candidates_after, tried_after, left_of, left_tried, NextIn, WalkedStep, WalkedAfter}
 use Rattle.walking.proofs.ShownLaws.{candidate_within, few_tried, few_candidates, step_few}
-use Rattle.walking.proofs.Walks.{walk_file, walk_passed}
+use Rattle.walking.proofs.Walks.{walk_passed}
 use Rattle.placing.specs.declared.Tally.{Tally}
 use Rattle.placing.specs.Tally.{shown_choice, best_from, start_of, take_with, step_tally, BestWithin, TallyWithin}
 use Rattle.placing.proofs.Choosing.{chosen_within}
@@ -40,7 +39,7 @@ pub record Taking (file blocked : List ℕ) (seat : Seat) (s tried : ℕ) (tally
   pub best_is : best_from (seen_by file blocked seat) tally.best (left_of (seen_by file blocked seat) next) ≡ best_from (seen_by file blocked seat) None (candidates (seen_by file blocked seat) s)
   pub best_within : BestWithin tally.best
 
-pub taking_all : {file blocked : List ℕ} {table : List ℤ} {seat : Seat} {array : List ℕ} {s tried : ℕ} {next : Next} → WalkReady file blocked table seat array
+pub taking_all : {file blocked : List ℕ} {seat : Seat} {array : List ℕ} {s tried : ℕ} {next : Next} → WalkReady file blocked seat array
     → s < steps_in file → tried ≤ 38656 * s
     → WalkedStep file (seen_by file blocked seat) s next → Taking file blocked seat s tried (start_of tried) next
 taking_all {file} {tried = tried} ready l few w =
@@ -131,4 +130,4 @@ module _ {file blocked : List ℕ} {seat : Seat} {s tried : ℕ} {tally : Tally}
                 (candidate_within h.passed taking_in h.place_within);
           })
 
-pub ruleset taking = (walk_file, taking_all, ended_fits, taking_ended, ended_within, taking_in, tried_room, count_room, taking_less, taking_more)
+pub ruleset taking = (taking_all, ended_fits, taking_ended, ended_within, taking_in, tried_room, count_room, taking_less, taking_more)

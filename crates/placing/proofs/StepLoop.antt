@@ -4,7 +4,6 @@ use mathlib.Core.Path.{◌≡◌, refl, sym, ap, ◌∙◌, subst}
 use mathlib.Core.List.{List, [], ◌∷◌}
 use native.Mathlib.Omega.{arith}
 use native.Mathlib.Numerals.{add-one}
-use lib.IntN.{ℤ}
 use lib.ListN.{length}
 use Rattle.records.specs.declared.SeatRecord.{SeatRecord}
 use Rattle.records.specs.Record.{unplaced_record}
@@ -114,7 +113,7 @@ module _ {file blocked : List ℕ} {seat : Seat} {tried s n : ℕ} (h : Searchin
 pub ruleset searching = (step_in, searching_all, best_placed, counts_within, searching_few, searching_none, searching_more, searching_found)
 
 -- ---- `place_seat`
-pub lists_ready : {file blocked : List ℕ} {table : List ℤ} {seat : Seat} {kept : List ℕ} → SearchReady file blocked table seat → ListsRoom kept
-    → ListsReady file seat.place kept × (length blocked ≡ 32)
+pub lists_ready : {blocked : List ℕ} {seat : Seat} {kept : List ℕ} → SearchReady blocked seat → ListsRoom kept
+    → ListsReady seat.place kept × (length blocked ≡ 32)
 lists_ready ready room =
-    (record { file_passed = ready.file_ready.file_passed; place_within = ready.place_within; room = room }, ready.blocked_long)
+    (record { place_within = ready.place_within; room = room }, ready.blocked_long)

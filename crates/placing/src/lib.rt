@@ -18,6 +18,7 @@ use decks::Ship;
 use geometry::{Height, Vec2};
 use hits::Candidate;
 use records::SeatRecord;
+use ring::Directions;
 use survey::{Seat, Wish};
 use walking::{Next, Search};
 
@@ -76,7 +77,7 @@ fn take_step(search: &Search<'_>, s: usize, tried: usize, near: &mut [u32]) -> T
         best: None,
     };
     let mut next = search.first(s, near);
-    // A loop: a walk is lent its arrays at each step, so it is no iterator.
+    // A loop and no `while let`: the end has a number too. A walk is lent its array at each step, so it is no iterator.
     'candidates: loop {
         match next {
             Next::Ended(n) => {
@@ -86,10 +87,11 @@ fn take_step(search: &Search<'_>, s: usize, tried: usize, near: &mut [u32]) -> T
                 };
             }
             Next::Reached(candidate, n) => {
+                let spot = search.spot(candidate);
                 let choice = Choice {
                     candidate,
-                    place: search.place_of(candidate),
-                    height: search.height_of(candidate),
+                    place: spot.place(),
+                    height: spot.height(),
                 };
                 tally = take(search.seat.wish, tally, n, choice);
                 next = search.after(candidate, near);
@@ -169,12 +171,12 @@ fn search_steps(search: &Search<'_>, near: &mut [u32]) -> SeatRecord
 pub fn place_seat(
     ship: &Ship<'_>,
     blocked: &[u8],
-    table: &[i32; 2432],
+    directions: &Directions,
     seat: Seat,
     kept: &mut [u32],
     near: &mut [u32],
 ) -> SeatRecord
-    requires { SearchReady ship.now blocked.now table.now seat × ListsRoom kept.old }
+    requires { SearchReady blocked.now seat × ListsRoom kept.old }
     ensures { (result ≡ seat_record (seen_by ship.now blocked.now seat) (decode ship.now).steps)
         × Sifted ship.now seat.place kept.new }
 {
@@ -182,7 +184,7 @@ pub fn place_seat(
     let search = Search {
         ship,
         blocked,
-        table,
+        directions,
         seat,
         kept,
     };

@@ -14,8 +14,8 @@ use Rattle.ship.specs.Layout.{number_size, header_size, deck_row_size, decks_in,
 use Rattle.ship.specs.Questions.{first_no, DeckOfPassed}
 use Rattle.ship.proofs.Facts.{sound}
 use Rattle.unstitched.specs.declared.Stitches.{Stitches}
-use Rattle.unstitched.specs.NewFile.{new_v, new_n, new_blocks, rest_size, rest_of, all_blocks}
-use Rattle.removal.specs.Parts.{PartReady, DeckReady, FileReady}
+use Rattle.unstitched.specs.NewFile.{new_v, new_n, new_blocks, rest_size, rest_of, all_blocks, new_file}
+use Rattle.removal.specs.Parts.{DeckReady}
 use Rattle.removal.proofs.PutLoop.{PiecesPut, pieces_all, pieces_none, pieces_room, pieces_yes}
 use Rattle.unstitched.proofs.OldPlaces.{deck_laid}
 use Rattle.unstitched.proofs.Pieces.{slice_length}
@@ -23,15 +23,15 @@ use Rattle.unstitched.proofs.NewPlaces.{blocks_in, parts_length}
 use Rattle.std.specs.Prelude.{Ok}
 
 -- ---- `put_rest`
-module _ {s : List ℕ} {b : Blocks} {out : List ℕ} {at : ℕ} (h : PartReady s b (rest_of s b) out at) where
+module _ {s : List ℕ} {b : Blocks} (deck : DeckOfPassed s b) where
   rest_is : b.h + number_size * b.heights ≡ b.p + rest_size b
-  rest_is = let l = deck_laid h.deck in omega (arith, l.c_next, l.h_next)
+  rest_is = let l = deck_laid deck in omega (arith, l.c_next, l.h_next)
 
   size_is : b.h + number_size * b.heights - b.p ≡ rest_size b
   size_is = omega (arith, rest_is)
 
   all_inside : b.p + rest_size b ≤ length s
-  all_inside = omega (arith, rest_is, (sound h.deck).inside.h_inside)
+  all_inside = omega (arith, rest_is, (sound deck).inside.h_inside)
 
   pub rest_below : b.p ≤ b.h + number_size * b.heights
   rest_below = omega (arith, rest_is)
@@ -39,17 +39,17 @@ module _ {s : List ℕ} {b : Blocks} {out : List ℕ} {at : ℕ} (h : PartReady 
   pub rest_inside : b.p + (b.h + number_size * b.heights - b.p) ≤ length s
   rest_inside = omega (arith, size_is, all_inside)
 
-  pub rest_room : at + (b.h + number_size * b.heights - b.p) ≤ length out
-  rest_room = omega (arith, size_is, h.room, slice_length s b.p (rest_size b) all_inside)
+  pub rest_room : (out : List ℕ) (at : ℕ) → at + length (rest_of s b) ≤ length out → at + (b.h + number_size * b.heights - b.p) ≤ length out
+  rest_room out at room = omega (arith, size_is, room, slice_length s b.p (rest_size b) all_inside)
 
   module _ (l : length s < 2 ^ 64) where
     pub heights_fit : Fits w64 (number_size * b.heights)
-    heights_fit = record { fits = omega (arith, (sound h.deck).inside.h_inside) }
+    heights_fit = record { fits = omega (arith, (sound deck).inside.h_inside) }
 
     pub end_fits : Fits w64 (b.h + number_size * b.heights)
-    end_fits = record { fits = omega (arith, (sound h.deck).inside.h_inside) }
+    end_fits = record { fits = omega (arith, (sound deck).inside.h_inside) }
 
-  pub rest_put : {out' : List ℕ} {n : ℕ} → Put out at (slice s b.p (b.h + number_size * b.heights - b.p)) out' n → Put out at (rest_of s b) out' n
+  pub rest_put : {out : List ℕ} {at : ℕ} {out' : List ℕ} {n : ℕ} → Put out at (slice s b.p (b.h + number_size * b.heights - b.p)) out' n → Put out at (rest_of s b) out' n
   rest_put p = rw size_is at p
 
 pub ruleset rest = (rest_below, rest_inside, rest_room, heights_fit, end_fits, rest_put)
@@ -60,29 +60,29 @@ pub ready_read : {which which' : Stitches} {s s' : List ℕ} {d d' : ℕ} {out :
     → DeckReady which' s' d' out at
 ready_read e h = rw (e.0, e.1.0, e.1.1) h
 
-module _ {which : Stitches} {s : List ℕ} {d : ℕ} {out : List ℕ} {at : ℕ} (h : DeckReady which s d out at) {b : Blocks} (is : b ≡ blocks_at s d) (deck : DeckOfPassed s b) where
+module _ {which : Stitches} {s : List ℕ} {d : ℕ} {out : List ℕ} {at : ℕ} (h : DeckReady which s d out at) {b : Blocks} (is : b ≡ blocks_at s d) where
   room : at + (length (new_v which s d b) + length (new_n which s d b) + length (rest_of s b)) ≤ length out
   unfolding new_blocks
   room =
       let r : at + length (new_blocks which s d b) ≤ length out = rw is h.room in
       omega (arith, r, length-append (new_v which s d b ++ new_n which s d b) (rest_of s b), length-append (new_v which s d b) (new_n which s d b))
 
-  pub v_ready : PartReady s b (new_v which s d b) out at
-  v_ready = record { deck = deck; room = omega (arith, room) }
+  pub v_room : at + length (new_v which s d b) ≤ length out
+  v_room = omega (arith, room)
 
   module _ {mid : List ℕ} {n : ℕ} (p : Put out at (new_v which s d b) mid n) where
     v_long : length mid ≡ length out
     v_long = put_long p (omega (arith, room))
 
-    pub n_ready : PartReady s b (new_n which s d b) mid n
-    n_ready = record { deck = deck; room = omega (arith, room, v_long, p.next_is) }
+    pub n_room : n + length (new_n which s d b) ≤ length mid
+    n_room = omega (arith, room, v_long, p.next_is)
 
     module _ {mid2 : List ℕ} {m : ℕ} (q : Put mid n (new_n which s d b) mid2 m) where
       n_long : length mid2 ≡ length out
       n_long = put_long q (omega (arith, room, v_long, p.next_is)) ∙ v_long
 
-      pub rest_ready : PartReady s b (rest_of s b) mid2 m
-      rest_ready = record { deck = deck; room = omega (arith, room, n_long, p.next_is, q.next_is) }
+      pub rest_fits : m + length (rest_of s b) ≤ length mid2
+      rest_fits = omega (arith, room, n_long, p.next_is, q.next_is)
 
       module _ {out' : List ℕ} {next : ℕ} (r : Put mid2 m (rest_of s b) out' next) where
         pub deck_put : Put out at (new_blocks which s d (blocks_at s d)) out' next
@@ -96,9 +96,9 @@ pub record DecksPut (which : Stitches) (s out₀ out : List ℕ) (at d : ℕ) : 
   pub passed : first_no s ≡ Ok tt
   pub put : PiecesPut (λ k. true) (blocks_in which s) (decks_in s) out₀ (blocks_position s) out at d
 
-pub decks_all : {which : Stitches} {s out : List ℕ} {n : ℕ} → first_no s ≡ Ok tt → FileReady which s out → n ≡ decks_in s → DecksPut which s out out (header_size + deck_row_size * n) 0
+pub decks_all : {which : Stitches} {s out : List ℕ} {n : ℕ} → first_no s ≡ Ok tt → length (new_file which s) ≤ length out → n ≡ decks_in s → DecksPut which s out out (header_size + deck_row_size * n) 0
 unfolding all_blocks
-decks_all {which} {s} passed h e = rw e (record { passed = passed; put = pieces_all (omega (arith, h.room, parts_length which s passed)) })
+decks_all {which} {s} passed h e = rw e (record { passed = passed; put = pieces_all (omega (arith, h, parts_length which s passed)) })
 
 module _ {which : Stitches} {s out₀ out : List ℕ} {at d n : ℕ} (c : DecksPut which s out₀ out at d) (e : n ≡ decks_in s) where
   pub decks_long : length out ≡ length out₀

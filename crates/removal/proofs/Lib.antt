@@ -1,5 +1,6 @@
 pub mod PutLoop
 pub mod NeighbourLoop
+pub mod LaidDecks
 pub mod Vertices
 pub mod Decks
 pub mod Losses

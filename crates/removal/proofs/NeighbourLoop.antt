@@ -16,7 +16,7 @@ use Rattle.ship.proofs.Facts.{sound}
 use Rattle.unstitched.specs.declared.Stitches.{Stitches}
 use Rattle.unstitched.specs.Removal.{keeps, written_as, kept_of}
 use Rattle.unstitched.specs.NewFile.{kept_from, new_n}
-use Rattle.removal.specs.Parts.{PartReady}
+use Rattle.ship.specs.Questions.{DeckOfPassed}
 use Rattle.removal.proofs.PutLoop.{PiecesPut, pieces_all, pieces_none, pieces_no, pieces_room, pieces_yes}
 
 module _ (which : Stitches) (s : List ℕ) (d : ℕ) (b : Blocks) where
@@ -46,8 +46,8 @@ pub record NeighboursPut (which : Stitches) (s : List ℕ) (d : ℕ) (b : Blocks
   pub put : PiecesPut (stays which s d b) (entry_bytes which s d b) b.neighbours out₀ at out next i
 
 module _ {which : Stitches} {s : List ℕ} {d : ℕ} {b : Blocks} {out₀ : List ℕ} {at : ℕ} where
-  pub neighbours_all : PartReady s b (new_n which s d b) out₀ at → NeighboursPut which s d b out₀ at out₀ at 0
-  neighbours_all h = record { inside = (sound h.deck).inside.n_inside; put = pieces_all (rw (kept_words which s d b b.neighbours 0) at h.room) }
+  pub neighbours_all : DeckOfPassed s b → at + length (new_n which s d b) ≤ length out₀ → NeighboursPut which s d b out₀ at out₀ at 0
+  neighbours_all deck room = record { inside = (sound deck).inside.n_inside; put = pieces_all (rw (kept_words which s d b b.neighbours 0) at room) }
 
   module _ {out : List ℕ} {next i : ℕ} (c : NeighboursPut which s d b out₀ at out next i) where
     pub neighbours_long : length out ≡ length out₀

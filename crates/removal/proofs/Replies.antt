@@ -17,7 +17,6 @@ use Rattle.decks.proofs.Opening.{open_no, open_yes, open_same}
 use Rattle.ship.proofs.Facts.{header_there}
 use Rattle.unstitched.specs.declared.Stitches.{Stitches}
 use Rattle.unstitched.specs.NewFile.{new_table, new_file, RemovalReplied, all_blocks}
-use Rattle.removal.specs.Parts.{FileReady}
 use Rattle.unstitched.proofs.NewPlaces.{header_length, front_length, parts_length}
 
 -- ---- `put_file`
@@ -26,14 +25,14 @@ three_parts : (out a b c : List ℕ) (n m : ℕ) → n ≡ 0 + length a → m �
 three_parts out a b c n m e f room =
     rw (e, f, splice_splice out 0 a (omega (arith, length-append a b)) b) (splice_splice out 0 (a ++ b) (omega arith) c)
 
-module _ {which : Stitches} {s out : List ℕ} (passed : first_no s ≡ Ok tt) (h : FileReady which s out) where
-  pub header_inside : {t : List ℕ} → t ≡ s → 0 + header_size ≤ length t
-  header_inside same = rw same (omega (arith, header_there s passed))
+-- t is what is read of the ship
+pub header_inside : {s t : List ℕ} → first_no s ≡ Ok tt → t ≡ s → 0 + header_size ≤ length t
+header_inside {s} passed same = rw same (omega (arith, header_there s passed))
 
+module _ (which : Stitches) (s out : List ℕ) (passed : first_no s ≡ Ok tt) (h : length (new_file which s) ≤ length out) where
   pub header_room : 0 + header_size ≤ length out
-  header_room = omega (arith, h.room, parts_length which s passed)
+  header_room = omega (arith, h, parts_length which s passed)
 
-  -- t is what is read of the ship
   pub file_put : {t mid mid2 out' : List ℕ} {n : ℕ} → t ≡ s → Put out 0 (slice t 0 header_size) mid n → mid2 ≡ splice mid header_size (new_table which s)
       → out' ≡ splice mid2 (blocks_position s) (all_blocks which s) → out' ≡ splice out 0 (new_file which s)
   unfolding new_file all_blocks
@@ -43,7 +42,7 @@ module _ {which : Stitches} {s out : List ℕ} (passed : first_no s ≡ Ok tt) (
       let b = new_table which s in
       let first : header_size ≡ 0 + length a = omega (arith, header_length which s passed) in
       let both : blocks_position s ≡ 0 + length (a ++ b) = omega (arith, front_length which s passed) in
-      let room : length (a ++ b) ≤ length out = omega (arith, both, h.room, parts_length which s passed) in
+      let room : length (a ++ b) ≤ length out = omega (arith, both, h, parts_length which s passed) in
       d ∙ rw (t', p.out_is) (three_parts out a b (all_blocks which s) header_size (blocks_position s) first both room)
 
 pub ruleset file = (header_inside, header_room, file_put)
@@ -60,13 +59,9 @@ module _ (which : Stitches) (file : List ℕ) {r : Result (List ℕ) Refusal} (a
     pub removal_short : length out < size → RemovalReplied which file out out (Err NoRoom)
     removal_short l = replied_short refl (open_yes (first_no file) file asked yes) (omega (arith, new_long))
 
-    module _ (l : size ≤ length out) where
-      pub file_ready : FileReady which s out
-      file_ready = record { room = omega arith }
-
-      pub removal_written : {out' : List ℕ} → out' ≡ splice out 0 (new_file which s) → RemovalReplied which file out out' (Ok size)
-      unfolding splice
-      removal_written {out'} put =
-          let z : 0 + length (new_file which file) ≡ length (new_file which file) = omega arith in
-          let o : out' ≡ splice out 0 (new_file which file) = rw (open_same (first_no file) file asked yes) at put in
-          replied_written refl (open_yes (first_no file) file asked yes) (omega (arith, new_long)) new_long (rw z at o)
+    pub removal_written : size ≤ length out → {out' : List ℕ} → out' ≡ splice out 0 (new_file which s) → RemovalReplied which file out out' (Ok size)
+    unfolding splice
+    removal_written l {out'} put =
+        let z : 0 + length (new_file which file) ≡ length (new_file which file) = omega arith in
+        let o : out' ≡ splice out 0 (new_file which file) = rw (open_same (first_no file) file asked yes) at put in
+        replied_written refl (open_yes (first_no file) file asked yes) (omega (arith, new_long)) new_long (rw z at o)

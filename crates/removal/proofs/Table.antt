@@ -16,8 +16,8 @@ use Rattle.ship.specs.Questions.{first_no}
 use Rattle.ship.proofs.Passed.{passed_header}
 use Rattle.ship.proofs.Inside.{table_there}
 use Rattle.unstitched.specs.declared.Stitches.{Stitches}
-use Rattle.unstitched.specs.NewFile.{pairs, new_table, block_lengths}
-use Rattle.removal.specs.Parts.{FileReady, LostInBlock}
+use Rattle.unstitched.specs.NewFile.{pairs, new_table, new_file, block_lengths}
+use Rattle.removal.specs.Parts.{LostInBlock}
 use Rattle.unstitched.proofs.OldPlaces.{block_start, block_first, block_next, block_here}
 use Rattle.unstitched.proofs.NewPlaces.{all_lengths, parts_length}
 use Rattle.std.specs.Prelude.{Ok}
@@ -39,12 +39,12 @@ pub record TablePut (which : Stitches) (s out₀ out : List ℕ) (lost j : ℕ) 
   pub next_is : next + lost ≡ block_start s j
   pub same : splice out₀ header_size (new_table which s) ≡ splice out (header_size + pair_size * j) (words_of (pairs next (drop j (block_lengths which s))))
 
-pub table_all : {which : Stitches} {s out : List ℕ} → first_no s ≡ Ok tt → FileReady which s out → TablePut which s out out 0 0
+pub table_all : {which : Stitches} {s out : List ℕ} → first_no s ≡ Ok tt → length (new_file which s) ≤ length out → TablePut which s out out 0 0
 unfolding new_table
 table_all {which} {s} passed h =
     record {
       passed = passed;
-      room = omega (arith, h.room, parts_length which s passed);
+      room = omega (arith, h, parts_length which s passed);
       long = refl;
       next = blocks_position s;
       next_is = omega (arith, block_first s passed);

@@ -13,12 +13,12 @@ use Rattle.words.specs.Rows.{collect_all}
 use Rattle.words.proofs.Splice.{splice_splice}
 use Rattle.ship.specs.declared.Blocks.{Blocks}
 use Rattle.ship.specs.declared.Extent.{Extent}
-use Rattle.ship.specs.Layout.{number_size, deck_offset_size, vertex_size, list_in_vertex, vertex_position, neighbour_extent}
+use Rattle.ship.specs.Layout.{number_size, pair_size, deck_offset_size, first_list, vertex_size, list_in_vertex, vertex_position, neighbour_extent}
 use Rattle.ship.specs.Questions.{DeckOfPassed}
 use Rattle.ship.proofs.Facts.{sound}
 use Rattle.unstitched.specs.declared.Stitches.{Stitches}
 use Rattle.unstitched.specs.NewFile.{kept_from, new_vertex, new_v, new_extent}
-use Rattle.removal.specs.Parts.{PartReady, ListReady, ListPut}
+use Rattle.removal.specs.Parts.{ListReady, ListPut}
 use Rattle.unstitched.proofs.Entries.{kept_join, kept_few}
 use Rattle.removal.proofs.PutLoop.{PiecesPut, pieces_all, pieces_none, pieces_room, pieces_yes}
 use Rattle.unstitched.proofs.Pieces.{slice_length}
@@ -26,12 +26,17 @@ use Rattle.unstitched.proofs.Chains.{start_of, start_here, start_first, start_ne
 use Rattle.unstitched.proofs.OldPlaces.{lists_chain, deck_laid}
 use Rattle.unstitched.proofs.NewDeck.{vertex_length}
 
+-- ---- a vertex of a deck that passed: it and its list lie in the file
+module _ {s : List ℕ} {b : Blocks} {i : ℕ} (deck : DeckOfPassed s b) (there : i < b.vertices) where
+  pub row_inside : b.v + first_list + vertex_size * i + pair_size ≤ length s
+  row_inside = omega (arith, (sound deck).inside.v_inside)
+
+  pub list_there : {list : Extent} → list ≡ neighbour_extent s b i → b.n + number_size * (list.start + list.count) ≤ length s
+  list_there read = rw read (omega (arith, (sound deck).neighbour_list i there, (sound deck).inside.n_inside))
+
 -- ---- `put_list`
 module _ {which : Stitches} {s : List ℕ} {d : ℕ} {b : Blocks} {i start : ℕ} {out : List ℕ} {at : ℕ} (h : ListReady which s d b i start out at)
     {list : Extent} (read : list ≡ neighbour_extent s b i) where
-  pub list_there : b.n + number_size * (list.start + list.count) ≤ length s
-  list_there = rw read h.list_inside
-
   start_low : start ≤ list.start
   start_low = rw read (omega (arith, h.start_is, kept_few which s d b (neighbour_extent s b i).start 0))
 
@@ -52,17 +57,17 @@ module _ {which : Stitches} {s : List ℕ} {d : ℕ} {b : Blocks} {i start : ℕ
         next_is = sym (kept_join which s d b old.start 0 old.count ∙ rw (z, is, read, h.start_is));
       }
 
-pub ruleset list = (list_there, start_fits, list_end_fits, list_put)
+pub ruleset list = (start_fits, list_end_fits, list_put)
 
 -- ---- `put_vertex`
-module _ {which : Stitches} {s : List ℕ} {d : ℕ} {b : Blocks} {i start : ℕ} {out : List ℕ} {at : ℕ} (h : ListReady which s d b i start out (at + list_in_vertex))
+module _ {which : Stitches} {s : List ℕ} {d : ℕ} {b : Blocks} {i start : ℕ} {out : List ℕ} {at : ℕ} (h : ListReady which s d b i start out (at + list_in_vertex)) (deck : DeckOfPassed s b)
     {mid : List ℕ} {next : ℕ} (p : Put out at (slice s (vertex_position b i) list_in_vertex) mid next) where
   point : List ℕ
   point = slice s (vertex_position b i) list_in_vertex
 
   point_long : length point ≡ list_in_vertex
   unfolding point
-  point_long = slice_length s (vertex_position b i) list_in_vertex (omega (arith, h.row_inside))
+  point_long = slice_length s (vertex_position b i) list_in_vertex (omega (arith, row_inside deck h.there))
 
   point_room : at + length point ≤ length out
   point_room = omega (arith, h.room, point_long)
@@ -75,8 +80,7 @@ module _ {which : Stitches} {s : List ℕ} {d : ℕ} {b : Blocks} {i start : ℕ
   unfolding point
   vertex_ready =
       record {
-        row_inside = h.row_inside;
-        list_inside = h.list_inside;
+        there = h.there;
         start_is = h.start_is;
         room = omega (arith, h.room, p.next_is, point_long, vertex_long);
       }
@@ -89,23 +93,23 @@ pub ruleset vertex = (vertex_long, vertex_ready, vertex_put)
 
 -- ---- `put_vertices`: the vertices before i are put, and list i begins at `start`
 pub record VerticesPut (which : Stitches) (s : List ℕ) (d : ℕ) (b : Blocks) (out₀ : List ℕ) (at : ℕ) (out : List ℕ) (next start i : ℕ) : Type 0 where
-  pub deck : DeckOfPassed s b
   pub put : PiecesPut (λ k. true) (new_vertex which s d b) b.vertices out₀ at out next i
   pub start_is : start ≡ length (kept_from which s d b 0 (start_of (neighbour_extent s b) b.neighbours b.vertices i))
 
 -- the offset is copied first
-module _ (which : Stitches) {s : List ℕ} (d : ℕ) {b : Blocks} {out : List ℕ} {at : ℕ} (h : PartReady s b (new_v which s d b) out at) where
+pub offset_inside : {s : List ℕ} {b : Blocks} → DeckOfPassed s b → b.v + deck_offset_size ≤ length s
+offset_inside deck = omega (arith, (sound deck).inside.v_inside)
+
+module _ (which : Stitches) {s : List ℕ} (d : ℕ) {b : Blocks} (out : List ℕ) (at : ℕ) (deck : DeckOfPassed s b)
+    (room : at + length (new_v which s d b) ≤ length out) where
   V-long : length (new_v which s d b) ≡ length (slice s b.v deck_offset_size) + length (collect_all (new_vertex which s d b) 0 b.vertices)
   V-long = length-append (slice s b.v deck_offset_size) _
 
-  pub offset_inside : b.v + deck_offset_size ≤ length s
-  offset_inside = omega (arith, (sound h.deck).inside.v_inside)
-
   offset_long : length (slice s b.v deck_offset_size) ≡ deck_offset_size
-  offset_long = slice_length s b.v deck_offset_size offset_inside
+  offset_long = slice_length s b.v deck_offset_size (offset_inside deck)
 
   pub offset_room : at + deck_offset_size ≤ length out
-  offset_room = omega (arith, h.room, V-long, offset_long)
+  offset_room = omega (arith, room, V-long, offset_long)
 
   module _ {mid : List ℕ} {first : ℕ} (p : Put out at (slice s b.v deck_offset_size) mid first) where
     offset_put : length mid ≡ length out
@@ -114,9 +118,8 @@ module _ (which : Stitches) {s : List ℕ} (d : ℕ) {b : Blocks} {out : List �
     pub vertices_all : VerticesPut which s d b mid first mid first 0 0
     vertices_all =
         record {
-          deck = h.deck;
-          put = pieces_all (omega (arith, h.room, V-long, p.next_is, offset_put));
-          start_is = rw (start_first (neighbour_extent s b) b.neighbours 0 b.vertices (lists_chain h.deck)) (omega (arith, kept_few which s d b 0 0));
+          put = pieces_all (omega (arith, room, V-long, p.next_is, offset_put));
+          start_is = rw (start_first (neighbour_extent s b) b.neighbours 0 b.vertices (lists_chain deck)) (omega (arith, kept_few which s d b 0 0));
         }
 
     module _ {out' : List ℕ} {next start i : ℕ} (c : VerticesPut which s d b mid first out' next start i) where
@@ -127,12 +130,12 @@ module _ (which : Stitches) {s : List ℕ} (d : ℕ) {b : Blocks} {out : List �
       vertices_none l = put_put p (omega (arith, offset_room, offset_long, p.next_is)) (pieces_none c.put l)
 
 module _ {which : Stitches} {s : List ℕ} {d : ℕ} {b : Blocks} {out₀ : List ℕ} {at : ℕ} {out : List ℕ} {next start i : ℕ}
-    (c : VerticesPut which s d b out₀ at out next start i) (h : i < b.vertices) where
+    (c : VerticesPut which s d b out₀ at out next start i) (deck : DeckOfPassed s b) (h : i < b.vertices) where
   extent_is : start_of (neighbour_extent s b) b.neighbours b.vertices i ≡ (neighbour_extent s b i).start
   extent_is = start_here (neighbour_extent s b) b.neighbours b.vertices i h
 
   piece_long : length (new_vertex which s d b i) ≡ vertex_size
-  piece_long = vertex_length which s d b (deck_laid c.deck) i h
+  piece_long = vertex_length which s d b (deck_laid deck) i h
 
   piece_room : next + vertex_size ≤ length out
   piece_room = omega (arith, pieces_room c.put h refl, piece_long)
@@ -140,8 +143,7 @@ module _ {which : Stitches} {s : List ℕ} {d : ℕ} {b : Blocks} {out₀ : List
   pub list_ready : ListReady which s d b i start out (next + list_in_vertex)
   list_ready =
       record {
-        row_inside = omega (arith, (sound c.deck).inside.v_inside);
-        list_inside = omega (arith, (sound c.deck).neighbour_list i h, (sound c.deck).inside.n_inside);
+        there = h;
         start_is = c.start_is ∙ rw extent_is;
         room = omega (arith, piece_room);
       }
@@ -153,9 +155,8 @@ module _ {which : Stitches} {s : List ℕ} {d : ℕ} {b : Blocks} {out₀ : List
       → VerticesPut which s d b out₀ at out' (next + vertex_size) start' (i + 1)
   vertices_more q =
       record {
-        deck = c.deck;
         put = pieces_yes c.put h refl q.out_is (rw piece_long);
-        start_is = q.next_is ∙ rw (start_next (neighbour_extent s b) b.neighbours 0 b.vertices (lists_chain c.deck) i h, extent_is);
+        start_is = q.next_is ∙ rw (start_next (neighbour_extent s b) b.neighbours 0 b.vertices (lists_chain deck) i h, extent_is);
       }
 
 pub ruleset vertices = (offset_inside, offset_room, vertices_all, vertices_long, vertices_none, list_ready, vertex_fits, vertices_more)

@@ -2,32 +2,21 @@
 use Rattle.std.specs.Prelude.{ℕ, ◌+◌, ◌*◌, ◌≤◌, ◌<◌, ◌≡◌, List, length, get_or}
 use Rattle.words.specs.Bytes.{splice}
 use Rattle.ship.specs.declared.Blocks.{Blocks}
-use Rattle.ship.specs.Layout.{number_size, pair_size, vertex_size, first_list, decks_in, blocks_at, block_at, neighbour_extent}
-use Rattle.ship.specs.Questions.{DeckOfPassed}
+use Rattle.ship.specs.Layout.{number_size, pair_size, decks_in, blocks_at, block_at, neighbour_extent}
 use Rattle.unstitched.specs.declared.Stitches.{Stitches}
 use Rattle.unstitched.specs.declared.OldDeck.{OldDeck}
-use Rattle.unstitched.specs.NewFile.{kept_from, new_vertex, new_extent, new_v, new_n, new_blocks, block_lengths, new_file}
+use Rattle.unstitched.specs.NewFile.{kept_from, new_vertex, new_extent, new_v, new_n, new_blocks, block_lengths}
 
--- ---- a part of the new file
--- what a function needs that puts a part of deck b's blocks there
-pub record PartReady (s : List ℕ) (b : Blocks) (bytes out : List ℕ) (at : ℕ) : Type 0 where
-  pub deck : DeckOfPassed s b
-  pub room : at + length bytes ≤ length out
-
+-- ---- the blocks of a deck
 -- what a function needs that puts all blocks of deck d
 pub record DeckReady (which : Stitches) (s : List ℕ) (d : ℕ) (out : List ℕ) (at : ℕ) : Type 0 where
   pub there : d < decks_in s
   pub room : at + length (new_blocks which s d (blocks_at s d)) ≤ length out
 
--- what a function needs that puts the whole file, or its table or its blocks where they stand in it
-pub record FileReady (which : Stitches) (s out : List ℕ) : Type 0 where
-  pub room : length (new_file which s) ≤ length out
-
 -- ---- a vertex
--- what a function needs that puts them at a position: its list begins at `start`
+-- what a function needs that puts vertex i or its list at a position: the list begins at `start`
 pub record ListReady (which : Stitches) (s : List ℕ) (d : ℕ) (b : Blocks) (i start : ℕ) (out : List ℕ) (at : ℕ) : Type 0 where
-  pub row_inside : b.v + first_list + vertex_size * i + pair_size ≤ length s
-  pub list_inside : b.n + number_size * ((neighbour_extent s b i).start + (neighbour_extent s b i).count) ≤ length s
+  pub there : i < b.vertices
   pub start_is : start ≡ length (kept_from which s d b 0 (neighbour_extent s b i).start)
   pub room : at + pair_size ≤ length out
 
@@ -57,9 +46,6 @@ vertex_of old i = new_vertex old.rule.which old.file.now old.rule.deck old.block
 
 abbrev pub extent_of : OldDeck → ℕ → List ℕ
 extent_of old i = new_extent old.rule.which old.file.now old.rule.deck old.blocks i
-
-abbrev pub OldReady : OldDeck → List ℕ → List ℕ → ℕ → Type 0
-OldReady old bytes out at = PartReady old.file.now old.blocks bytes out at
 
 abbrev pub OldListReady : OldDeck → ℕ → ℕ → List ℕ → ℕ → Type 0
 OldListReady old i start out at = ListReady old.rule.which old.file.now old.rule.deck old.blocks i start out at

@@ -1,5 +1,5 @@
 pub mod Tests
-pub mod Directions
+pub mod Sizes
 pub mod TableRule
 pub mod SampleBounds
 pub mod Constants

@@ -15,7 +15,7 @@ use Rattle.geometry.proofs.Bounds.{Held, held, by_test, add_within, sub_within, 
 use Rattle.ring.specs.Sample.{pair_number, direction_a, direction_b, fraction_of, multiple, along_of, ring_direction, sample_of}
 use Rattle.ring.specs.Probe.{none, probes, probe_of}
 use Rattle.ring.proofs.Tests.{Tested, both, each}
-use Rattle.ring.proofs.Directions.{size}
+use Rattle.ring.proofs.Sizes.{size}
 
 sum_within : {k a b : ℕ} {p q : Vec2} → Held k → a + b ≤ k → PointWithin a p → PointWithin b q → PointWithin k (add_of p q)
 sum_within H h p q = record { x = add_within H h p.x q.x; y = add_within H h p.y q.y }

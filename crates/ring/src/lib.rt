@@ -23,21 +23,55 @@ const PROBES: [[f32; 2]; 9] = [
     [1.0, -1.0],
 ];
 
-// The table, for a caller to lend; flat, as document 01 has it.
-#[tactic(auto, unfolding(crate::specs::Table::directions))]
-pub fn all_directions() -> [i32; 2432]
-    ensures { result ≡ directions }
-{
-    table::DIRECTIONS
+// The table of document 01, flat, as the document has it: no value of this type holds other numbers. A caller makes it once and lends it, since a
+// constant that is indexed is copied whole at each call.
+#[derive(Drop)]
+pub struct Directions {
+    pub table: [i32; 2432],
+    pub ghost documented: { table ≡ directions },
 }
 
-// The k-th number of the table, over 2^24. The table is lent, since a constant that is indexed is copied whole at each call.
-#[tactic(auto, using(crate::proofs::Directions::read_in_float))]
-fn fraction(t: &[i32; 2432], k: usize) -> f32
-    requires { (t.now ≡ directions) × (k < 2432) }
-    ensures { result ≡ fraction_of (get_or directions k (pos 0)) }
-{
-    t[k] as f32 / 16777216.0
+// The samples of a step around a point lie on a ring.
+#[derive(Clone, Copy, Debug, PartialEq)]
+pub struct Ring {
+    pub center: Vec2,
+    pub reach: f32,
+    pub step: usize,
+    pub ghost few: { step < 16 },
+}
+
+impl Directions {
+    #[tactic(auto, unfolding(crate::specs::Table::directions))]
+    pub fn all() -> Self
+        ensures { result.table ≡ directions }
+    {
+        Directions {
+            table: table::DIRECTIONS,
+        }
+    }
+
+    // The k-th number of the table, over 2^24.
+    #[tactic(auto, using(crate::proofs::Sizes::read_in_float))]
+    fn fraction(&self, k: usize) -> f32
+        requires { k < 2432 }
+        ensures { result ≡ fraction_of (get_or directions k (pos 0)) }
+    {
+        self.table[k] as f32 / 16777216.0
+    }
+
+    // Sample i of a ring.
+    pub fn sample(&self, ring: Ring, i: usize) -> Vec2
+        requires { i ≤ 10 * ring.step }
+        ensures { result ≡ sample_of ring.center ring.reach ring.step i }
+    {
+        let s = ring.step;
+        let k = 2 * (5 * s * s - 4 * s + i);
+        let direction = Vec2 {
+            x: self.fraction(k),
+            y: self.fraction(k + 1),
+        };
+        along(ring.center, direction, ring.reach, s)
+    }
 }
 
 // s times the reach from p, along a direction.
@@ -50,19 +84,6 @@ pub fn along(p: Vec2, direction: Vec2, reach: f32, s: usize) -> Vec2
         x: p.x + direction.x * reach * steps,
         y: p.y + direction.y * reach * steps,
     }
-}
-
-// Sample i of step s around p.
-pub fn sample(t: &[i32; 2432], p: Vec2, reach: f32, s: usize, i: usize) -> Vec2
-    requires { (t.now ≡ directions) × ((s < 16) × (i ≤ 10 * s)) }
-    ensures { result ≡ sample_of p reach s i }
-{
-    let k = 2 * (5 * s * s - 4 * s + i);
-    let direction = Vec2 {
-        x: fraction(t, k),
-        y: fraction(t, k + 1),
-    };
-    along(p, direction, reach, s)
 }
 
 // Probe k around p.

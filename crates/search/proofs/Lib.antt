@@ -1,5 +1,5 @@
 pub mod Corners
-pub mod EdgeLoop
+pub mod EdgeWalk
 pub mod HeightLoop
 pub mod PolygonLoop
 pub mod HeightBound

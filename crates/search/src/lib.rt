@@ -4,7 +4,7 @@
 ghost use Rattle.std.specs.Prelude.{◌≡◌, ◌<◌, length, get_or};
 ghost use Rattle.geometry.specs.Heights.{mean_height};
 ghost use Rattle.ship.specs.Model.{point_of, height_of, corners_of, polygon_corners};
-ghost use Rattle.search.specs.OnDeck.{passes_at, next_hit, height_on};
+ghost use Rattle.search.specs.OnDeck.{passes_at, next_hit, edge_height, height_on};
 
 use decks::Deck;
 use geometry::{EdgeTest, Height, HeightSum, Vec2};
@@ -27,25 +27,23 @@ fn corner_height(deck: &Deck<'_>, k: usize, j: usize) -> f32
     deck.height(deck.corner(k, j))
 }
 
-// Whether polygon k holds p, a point in the deck's own coordinates.
-#[tactic(auto, using(crate::proofs::EdgeLoop::edges))]
+// Whether polygon k holds p, a point in the deck's own coordinates. Inline: a call for each polygon makes a search slower.
+#[inline]
+#[tactic(auto, using(crate::proofs::EdgeWalk::passing))]
 pub fn point_in_polygon(deck: &Deck<'_>, k: usize, p: Vec2) -> bool
     requires { k < length deck.now.polygons }
     ensures { result ≡ passes_at deck.now p k }
 {
-    let count = deck.corner_count(k);
-    let first = corner_point(deck, k, 0);
-    let mut a = first;
-    'edges: for j in 1..count {
-        let next = corner_point(deck, k, j);
-        match geometry::edge_test(p, a, next) {
-            EdgeTest::Inside => return true,
-            EdgeTest::Outside => return false,
-            EdgeTest::Next => {}
-        }
-        a = next;
-    }
-    geometry::edge_test(p, a, first) != EdgeTest::Outside
+    let answer = geometry::first_of_edges(
+        deck.corner_count(k),
+        |j| corner_point(deck, k, j),
+        |a, b| match geometry::edge_test(p, a, b) {
+            EdgeTest::Inside => Some(true),
+            EdgeTest::Outside => Some(false),
+            EdgeTest::Next => None,
+        },
+    );
+    answer.unwrap_or(true)
 }
 
 // The first polygon from number k on that passes at q, which is sample i.
@@ -75,7 +73,22 @@ fn mean_height(deck: &Deck<'_>, k: usize) -> f32
     sum.mean()
 }
 
+// The height at a place along the edge from vertex v to vertex w, where the place is on it.
+#[tactic(auto, unfolding(crate::specs::OnDeck::edge_height))]
+fn edge_height(deck: &Deck<'_>, place: Vec2, v: usize, w: usize) -> Option<Height>
+    requires { (v < length deck.now.vertices) × ((w < length deck.now.vertices) × (0 < length deck.now.heights)) }
+    ensures { result ≡ edge_height deck.now place v w }
+{
+    let a = deck.point(v);
+    let b = deck.point(w);
+    if !geometry::on_segment(place, a, b) {
+        return None;
+    }
+    Some(geometry::height_along(place, a, b, deck.height(v), deck.height(w)))
+}
+
 // The height of polygon k at a place: along the first edge that has the place on it, otherwise the mean.
+#[tactic(auto, using(crate::proofs::EdgeWalk::heights))]
 pub fn height_at(deck: &Deck<'_>, k: usize, place: Vec2) -> Height
     requires { k < length deck.now.polygons }
     ensures { result ≡ height_on deck.now k place }
@@ -83,30 +96,13 @@ pub fn height_at(deck: &Deck<'_>, k: usize, place: Vec2) -> Height
     if deck.height_count() == 0 {
         return Height::None;
     }
-    let count = deck.corner_count(k);
-    let first = corner_point(deck, k, 0);
-    let mut a = first;
-    'edges: for j in 1..count {
-        let next = corner_point(deck, k, j);
-        if geometry::on_segment(place, a, next) {
-            return geometry::height_along(
-                place,
-                a,
-                next,
-                corner_height(deck, k, j - 1),
-                corner_height(deck, k, j),
-            );
-        }
-        a = next;
+    let found = geometry::first_of_edges(
+        deck.corner_count(k),
+        |j| deck.corner(k, j),
+        |v, w| edge_height(deck, place, v, w),
+    );
+    match found {
+        Some(height) => height,
+        None => Height::Known(mean_height(deck, k)),
     }
-    if geometry::on_segment(place, a, first) {
-        return geometry::height_along(
-            place,
-            a,
-            first,
-            corner_height(deck, k, count - 1),
-            corner_height(deck, k, 0),
-        );
-    }
-    Height::Known(mean_height(deck, k))
 }

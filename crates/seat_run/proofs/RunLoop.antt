@@ -4,10 +4,8 @@ use native.Mathlib.Omega.{arith}
 use mathlib.Core.Path.{◌≡◌, refl, sym, ◌∙◌}
 use mathlib.Core.Bool.{Bool, true, false, not}
 use mathlib.Core.List.{List}
-use lib.IntN.{ℤ}
 use lib.ListN.{length}
 use Rattle.geometry.specs.Bounds.{PointWithin}
-use Rattle.ring.specs.Table.{directions}
 use Rattle.words.specs.Bytes.{splice}
 use Rattle.words.proofs.Writing.{Rest, rest_all, rest_more_front, rest_front}
 use Rattle.answers.specs.Questions.{question20}
@@ -25,7 +23,6 @@ use Rattle.survey.specs.Search.{seat_record}
 use Rattle.walking.specs.Sees.{seen_by, SearchReady}
 use Rattle.seat_run.specs.SeatFile.{seat_at, seat_count, question16_seat}
 use Rattle.seat_run.specs.Run.{record_of_seat, run_check, run_records, run_reply, RecordsRoom, RecordsPut}
-use Rattle.seat_run.specs.Ready.{RunReady}
 use Rattle.decks.specs.Opened.{opened}
 use Rattle.decks.proofs.Opening.{opened_err, opened_ok}
 use Rattle.answers.specs.declared.Refusal.{Refusal}
@@ -38,20 +35,15 @@ use Rattle.seat_run.proofs.BlockedTheorem.{blocked_unplaced}
 use Rattle.seat_run.proofs.NoDecksTheorem.{no_decks_replied}
 
 -- ---- `put_seat`
-module _ {file blocked : List ℕ} {table : List ℤ} {seats : List ℕ} {i : ℕ} (ready : RunReady file blocked table seats) (h : i < seat_count seats) where
+module _ (file blocked seats : List ℕ) {i : ℕ} (passed : run_check file blocked seats ≡ Ok tt) (h : i < seat_count seats) where
   asked : RunPassed file blocked seats
-  asked = run_yes file blocked seats ready.passed
+  asked = run_yes file blocked seats passed
 
   pub seat_floats : question16_seat seats i ≡ true
   seat_floats = seat_yes16 asked i h
 
-  pub seat_search : {seat : Seat} → PointWithin 1000000 seat.place → SearchReady file blocked table seat
-  seat_search within =
-      record {
-        file_ready = record { file_passed = asked.file_passed; table_is = ready.table_is };
-        blocked_long = run_blocked file blocked seats asked;
-        place_within = within;
-      }
+  pub seat_search : {seat : Seat} → PointWithin 1000000 seat.place → SearchReady blocked seat
+  seat_search within = record { blocked_long = run_blocked file blocked seats asked; place_within = within }
 
 pub seat_room : (seats : List ℕ) {i room : ℕ} → i < seat_count seats → record_size * seat_count seats ≤ room → record_size * i + record_size ≤ room
 seat_room seats h room = omega arith
@@ -108,8 +100,8 @@ module _ (file blocked seats : List ℕ) {r : Result (List ℕ) Refusal} (asked 
     ship_is : ship ≡ file
     ship_is = (opened_ok (run_check file blocked seats) file (sym asked ∙ opens)).1
 
-    pub run_ready : {table : List ℤ} → table ≡ directions → RunReady ship blocked table seats
-    run_ready d = record { passed = rw ship_is passed; table_is = d }
+    pub run_passed : run_check ship blocked seats ≡ Ok tt
+    run_passed = rw ship_is passed
 
     module _ {fits : Bool} (room : fits ≡ question20 (record_size * seat_count seats) (length out)) where
       pub run_short : not fits ≡ true → Replied (run_reply file blocked seats) out out (Err NoRoom)
@@ -130,4 +122,4 @@ module _ (file blocked seats : List ℕ) {r : Result (List ℕ) Refusal} (asked 
 pub run_room : (seats out : List ℕ) {fits : Bool} → fits ≡ question20 (record_size * seat_count seats) (length out) → not fits ≡ false → RecordsRoom seats out
 run_room seats out room has_room = q20_fits (record_size * seat_count seats) (length out) (said_yes room has_room)
 
-pub ruleset running = (run_refused, run_short, run_ready, run_room, run_replied, run_surveyed, run_unsearched, no_decks_replied)
+pub ruleset running = (run_refused, run_short, run_passed, run_room, run_replied, run_surveyed, run_unsearched, no_decks_replied)

@@ -1,7 +1,7 @@
 // The seat run (document 01, section 7).
 #![tactic(auto)]
 
-ghost use Rattle.std.specs.Prelude.{◌≡◌, true, not, ◌+◌, ◌*◌, ◌≤◌, ◌<◌, T, length};
+ghost use Rattle.std.specs.Prelude.{◌≡◌, true, not, ◌+◌, ◌*◌, ◌≤◌, ◌<◌, T, Ok, length};
 ghost use Rattle.std.specs.Float.{binary32};
 ghost use Rattle.std.specs.Float.Ieee.{nan_bits};
 ghost use Rattle.geometry.specs.Bounds.{PointWithin};
@@ -14,7 +14,6 @@ ghost use Rattle.decks.specs.Opened.{opened};
 ghost use Rattle.keeping.specs.Lists.{ListsRoom};
 ghost use Rattle.seat_run.specs.SeatFile.{seat_size, seat_word, seat_float, seat_at, seat_count, kind_allowed, question16_seat, seat_check};
 ghost use Rattle.seat_run.specs.Run.{record_of_seat, run_check, RunReplied, RecordsRoom, RecordsPut};
-ghost use Rattle.seat_run.specs.Ready.{RunReady, run_ready_prop};
 ghost use Rattle.seat_run.specs.Survey.{Surveyed};
 ghost use Rattle.seat_run.specs.Blocked.{BlockedUnplaced};
 ghost use Rattle.seat_run.specs.NoDecks.{NoDecksReplied};
@@ -24,43 +23,10 @@ use decks::Ship;
 use geometry::Vec2;
 use keeping::{KEPT_SIZE, NEAR_SIZE};
 use records::{RECORD_SIZE, SeatRecord};
+use ring::Directions;
 use survey::{DeckChoice, Seat, Wish};
 
 pub const SEAT_SIZE: usize = 20;
-
-// Number k of seat i.
-fn seat_word(seats: &[u8], i: usize, k: usize) -> u32
-    requires { seat_size * i + 4 * k + 4 ≤ length seats.now }
-    ensures { result ≡ seat_word seats.now i k }
-{
-    words::u32_at(seats, SEAT_SIZE * i + 4 * k)
-}
-
-fn seat_float(seats: &[u8], i: usize, k: usize) -> f32
-    requires { (seat_size * i + 4 * k + 4 ≤ length seats.now) × T (not (nan_bits binary32 (seat_word seats.now i k))) }
-    ensures { result ≡ seat_float seats.now i k }
-{
-    words::f32_at(seats, SEAT_SIZE * i + 4 * k)
-}
-
-// Seat i of the list.
-fn seat_at(seats: &[u8], i: usize) -> Seat
-    requires { (seat_size * i + seat_size ≤ length seats.now) × (question16_seat seats.now i ≡ true) }
-    ensures { (result ≡ seat_at seats.now i) × PointWithin 1000000 result.place }
-{
-    Seat {
-        place: Vec2 {
-            x: seat_float(seats, i, 0),
-            y: seat_float(seats, i, 1),
-        },
-        choice: DeckChoice::from(seat_word(seats, i, 2)),
-        wish: if seat_word(seats, i, 3) == 0 {
-            Wish::NoWish
-        } else {
-            Wish::Wished(seat_float(seats, i, 4))
-        },
-    }
-}
 
 // Question 15.
 #[tactic(auto, unfolding(crate::specs::SeatFile::kind_allowed))]
@@ -70,38 +36,80 @@ fn kind_allowed(kind: u32, height: u32) -> bool
     (kind == 0 && height == 0) || kind == 1
 }
 
-// Question 16 of one of a seat's floats, and of all three of seat i.
-fn float_in_size(seats: &[u8], i: usize, k: usize) -> bool
-    requires { seat_size * i + 4 * k + 4 ≤ length seats.now }
-    ensures { result ≡ in_size (seat_float seats.now i k) }
-{
-    ship::in_size(seat_word(seats, i, k))
+// A seat of a list, by its number there.
+#[derive(Clone, Copy)]
+struct ListedSeat<'a> {
+    seats: &'a [u8],
+    number: usize,
+    ghost there: { seat_size * number + seat_size ≤ length seats.now },
 }
 
-#[tactic(auto, unfolding(crate::specs::SeatFile::question16_seat))]
-fn floats_in_size(seats: &[u8], i: usize) -> bool
-    requires { seat_size * i + seat_size ≤ length seats.now }
-    ensures { result ≡ question16_seat seats.now i }
-{
-    float_in_size(seats, i, 0) && float_in_size(seats, i, 1) && float_in_size(seats, i, 4)
-}
+impl ListedSeat<'_> {
+    // Number k of its five.
+    fn word(&self, k: usize) -> u32
+        requires { k < 5 }
+        ensures { result ≡ seat_word self.now.seats.now self.now.number k }
+    {
+        words::u32_at(self.seats, SEAT_SIZE * self.number + 4 * k)
+    }
 
-// Questions 15 to 17 of seat i.
-#[tactic(auto, using(crate::proofs::SeatAsks::seat_asks))]
-fn seat_check(seats: &[u8], decks: usize, i: usize) -> Check
-    requires { seat_size * i + seat_size ≤ length seats.now }
-    ensures { result ≡ seat_check seats.now decks i }
-{
-    if !kind_allowed(seat_word(seats, i, 3), seat_word(seats, i, 4)) {
-        return Err(Refusal::KindNotAllowed);
+    fn float(&self, k: usize) -> f32
+        requires { (k < 5) × T (not (nan_bits binary32 (seat_word self.now.seats.now self.now.number k))) }
+        ensures { result ≡ seat_float self.now.seats.now self.now.number k }
+    {
+        words::f32_at(self.seats, SEAT_SIZE * self.number + 4 * k)
     }
-    if !floats_in_size(seats, i) {
-        return Err(Refusal::CallFloatOutOfRange);
+
+    // The seat itself.
+    fn seat(&self) -> Seat
+        requires { question16_seat self.now.seats.now self.now.number ≡ true }
+        ensures { (result ≡ seat_at self.now.seats.now self.now.number) × PointWithin 1000000 result.place }
+    {
+        Seat {
+            place: Vec2 {
+                x: self.float(0),
+                y: self.float(1),
+            },
+            choice: DeckChoice::from(self.word(2)),
+            wish: if self.word(3) == 0 {
+                Wish::NoWish
+            } else {
+                Wish::Wished(self.float(4))
+            },
+        }
     }
-    if !answers::deck_there(decks, seat_word(seats, i, 2)) {
-        return Err(Refusal::NoSuchDeck);
+
+    // Question 16 of one of its floats, and of all three.
+    fn float_in_size(&self, k: usize) -> bool
+        requires { k < 5 }
+        ensures { result ≡ in_size (seat_float self.now.seats.now self.now.number k) }
+    {
+        ship::in_size(self.word(k))
     }
-    Ok(())
+
+    #[tactic(auto, unfolding(crate::specs::SeatFile::question16_seat))]
+    fn floats_in_size(&self) -> bool
+        ensures { result ≡ question16_seat self.now.seats.now self.now.number }
+    {
+        self.float_in_size(0) && self.float_in_size(1) && self.float_in_size(4)
+    }
+
+    // Questions 15 to 17.
+    #[tactic(auto, using(crate::proofs::SeatAsks::seat_asks))]
+    fn check(&self, decks: usize) -> Check
+        ensures { result ≡ seat_check self.now.seats.now decks self.now.number }
+    {
+        if !kind_allowed(self.word(3), self.word(4)) {
+            return Err(Refusal::KindNotAllowed);
+        }
+        if !self.floats_in_size() {
+            return Err(Refusal::CallFloatOutOfRange);
+        }
+        if !answers::deck_there(decks, self.word(2)) {
+            return Err(Refusal::NoSuchDeck);
+        }
+        Ok(())
+    }
 }
 
 // Seat by seat.
@@ -109,8 +117,8 @@ fn seats_check(seats: &[u8], decks: usize) -> Check
     ensures { result ≡ check_each (seat_check seats.now decks) 0 (seat_count seats.now) }
 {
     let count = seats.len() / SEAT_SIZE;
-    'seats: for i in 0..count {
-        seat_check(seats, decks, i)?;
+    'seats: for number in 0..count {
+        ListedSeat { seats, number }.check(decks)?;
     }
     Ok(())
 }
@@ -130,14 +138,14 @@ pub fn run_check<'a>(file: &'a [u8], blocked: &[u8], seats: &[u8]) -> Result<Shi
     Ok(ship)
 }
 
-// What a run asks of: the ship, the blocked decks, the table of directions, and a list of seats, all of which passed questions 1 to 17.
+// What a run asks of: the ship, the blocked decks, the directions, and a list of seats, all of which passed questions 1 to 17.
 #[derive(Clone, Copy)]
 pub struct SeatRun<'a> {
     pub ship: &'a Ship<'a>,
     pub blocked: &'a [u8],
-    pub table: &'a [i32; 2432],
+    pub directions: &'a Directions,
     pub seats: &'a [u8],
-    pub ghost ready: { RunReady ship.now blocked.now table.now seats.now } by { run_ready_prop ship.now blocked.now table.now seats.now },
+    pub ghost passed: { run_check ship.now blocked.now seats.now ≡ Ok tt },
 }
 
 // The arrays that a run is lent: for the decks' kept lists, and for a step's own.
@@ -154,12 +162,15 @@ pub fn put_seat(run: &SeatRun<'_>, i: usize, out: &mut [u8], lists: &mut Lists<'
     ensures { (result ≡ record_of_seat (decode run.now.ship.now) run.now.blocked.now run.now.seats.now i)
         × (out.new ≡ splice out.old (record_size * i) (record_bytes result)) }
 {
-    let seat = seat_at(run.seats, i);
+    let listed = ListedSeat {
+        seats: run.seats,
+        number: i,
+    };
     let record = placing::place_seat(
         run.ship,
         run.blocked,
-        run.table,
-        seat,
+        run.directions,
+        listed.seat(),
         lists.kept,
         lists.near,
     );
@@ -203,11 +214,11 @@ pub fn run_over(
     if !answers::room_for(RECORD_SIZE, count, out.len()) {
         return Err(Refusal::NoRoom);
     }
-    let table = ring::all_directions();
+    let directions = Directions::all();
     let run = SeatRun {
         ship: &ship,
         blocked,
-        table: &table,
+        directions: &directions,
         seats,
     };
     let mut lists = Lists { kept, near };

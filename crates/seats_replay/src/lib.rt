@@ -197,7 +197,7 @@ impl<'a> cases::Case<'a> for Case<'a> {
         match self {
             Case::Run(run) => run.run(out),
             Case::Loads(loads) => loads.run(out),
-            Case::ClosestPoints(asked) => print_call(out, asked.room, 12, |lent| {
+            Case::ClosestPoints(asked) => print_call(out, asked.room, 12, 12, |lent| {
                 calls::get_closest_points_on_layers(
                     asked.file,
                     asked.p,
@@ -206,7 +206,7 @@ impl<'a> cases::Case<'a> for Case<'a> {
                     lent,
                 )
             }),
-            Case::ClosestPoint(asked) => print_call(out, asked.room, 12, |lent| {
+            Case::ClosestPoint(asked) => print_call(out, asked.room, 12, 12, |lent| {
                 calls::get_closest_point_on_layers(
                     asked.file,
                     asked.p,
@@ -215,7 +215,7 @@ impl<'a> cases::Case<'a> for Case<'a> {
                     lent,
                 )
             }),
-            Case::Height(asked) => print_call(out, asked.room, 4, |lent| {
+            Case::Height(asked) => print_call(out, asked.room, 4, 4, |lent| {
                 calls::height(asked.file, asked.p, asked.polygon, lent)
             }),
         }

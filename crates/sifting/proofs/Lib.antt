@@ -1,3 +1,3 @@
-pub mod EdgeLoop
+pub mod EdgeWalk
 pub mod SiftLoop
 pub mod Turns

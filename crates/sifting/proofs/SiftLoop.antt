@@ -19,7 +19,7 @@ use Rattle.keeping.specs.Kept.{sought_at, sought_count, KeptAt}
 use Rattle.keeping.proofs.SoughtLaws.{sought_end, sought_below}
 use Rattle.keeping.proofs.Growing.{list_none, list_skips, list_keeps, others_none, others_skip, others_keep}
 use Rattle.sifting.specs.Sifted.{may_pass_at, many, is_full, KeptOver, SiftReady, SiftedInto}
-use Rattle.sifting.proofs.EdgeLoop.{sifted_out}
+use Rattle.sifting.proofs.EdgeWalk.{sifted_out}
 
 -- ---- `is_full`
 module _ (count room looked : ℕ) where

@@ -1,5 +1,5 @@
 -- `sift_deck` and `turn`: a list of every polygon, and a list that serves the samples of a step.
-use Prim.Native.Nat.{ℕ, ◌≤◌}
+use Prim.Native.Nat.{ℕ, ◌≤◌, ◌<◌}
 use native.Mathlib.Omega.{arith}
 use mathlib.Core.Path.{◌≡◌}
 use mathlib.Core.List.{List, []}
@@ -29,13 +29,13 @@ over_every deck bounds =
       others = λ q i k h absent. let no-polygon : ⊥ = omega arith in absurd no-polygon;
     }
 
-module _ {deck : Deck} {p : Vec2} {reach : Float} {s : ℕ} (a : Around p reach s) {bounds : BoundingBox} (box : bounds ≡ step_box p reach s) where
+module _ {deck : Deck} {p : Vec2} {reach : Float} {s : ℕ} (a : Around p reach) (few : s < 16) {bounds : BoundingBox} (box : bounds ≡ step_box p reach s) where
   -- ---- `sift_deck`
   pub every_ready : {numbers : List ℕ} {rest : ℕ} → numbers ≡ [] → rest ≡ 0 → SiftReady deck bounds numbers rest
   every_ready n r =
       rw (box, n, r)
       (record {
-        box_within = step_box_within a.point_within a.reach_allowed a.step_few;
+        box_within = step_box_within a.point_within a.reach_allowed few;
         source_kept = over_every deck (step_box p reach s);
       })
 
@@ -45,7 +45,7 @@ module _ {deck : Deck} {p : Vec2} {reach : Float} {s : ℕ} (a : Around p reach 
 
   -- ---- `turn`
   pub near_ready : {numbers : List ℕ} {rest : ℕ} → KeptOver deck (step_box p reach s) numbers rest → SiftReady deck bounds numbers rest
-  near_ready over = rw box (record { box_within = step_box_within a.point_within a.reach_allowed a.step_few; source_kept = over })
+  near_ready over = rw box (record { box_within = step_box_within a.point_within a.reach_allowed few; source_kept = over })
 
   module _ {before near : List ℕ} {remaining : Remaining} (sifted : SiftedInto deck bounds before near remaining) where
     pub near_inside : remaining.count ≤ length near
@@ -54,7 +54,7 @@ module _ {deck : Deck} {p : Vec2} {reach : Float} {s : ℕ} (a : Around p reach 
     pub near_kept : RingKept deck (take remaining.count near) remaining.rest p reach s
     near_kept =
         record {
-          at = λ i. over_at (rw (← box) sifted.kept_over) (sample_in_box a.point_within a.reach_allowed a.step_few i);
+          at = λ i. over_at (rw (← box) sifted.kept_over) (sample_in_box a.point_within a.reach_allowed few i);
         }
 
 pub ruleset turns = (every_ready, every_sifted, near_ready, near_inside, near_kept)

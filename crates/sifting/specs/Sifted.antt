@@ -1,5 +1,5 @@
 -- A kept list over a box: what was sifted out passes at no point of it.
-use Rattle.std.specs.Prelude.{ℕ, ◌*◌, ◌≤◌, ◌<◌, ◌≡◌, Bool, ◌&&◌, ◌||◌, List, leb, ltb, length, take, Float}
+use Rattle.std.specs.Prelude.{ℕ, ◌*◌, ◌≤◌, ◌≡◌, Bool, ◌&&◌, ◌||◌, List, leb, ltb, length, take, Float}
 use Rattle.geometry.specs.declared.Vec2.{Vec2}
 use Rattle.geometry.specs.Bounds.{PointWithin}
 use Rattle.boxes.specs.declared.BoundingBox.{BoundingBox}
@@ -37,8 +37,7 @@ pub record SiftedInto (deck : Deck) (bounds : BoundingBox) (before after : List 
   pub inside : remaining.count ≤ length before
   pub long : length after ≡ length before
 
--- a point around which the samples of step s lie, in a deck's coordinates
-pub record Around (p : Vec2) (reach : Float) (s : ℕ) : Type 0 where
+-- a point around which samples lie, in a deck's coordinates
+pub record Around (p : Vec2) (reach : Float) : Type 0 where
   pub point_within : PointWithin 3000000 p
   pub reach_allowed : ReachAllowed reach
-  pub step_few : s < 16

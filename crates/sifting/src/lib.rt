@@ -3,7 +3,6 @@
 #![tactic(auto)]
 
 ghost use Rattle.std.specs.Prelude.{◌≡◌, ◌^◌, ◌<◌, length};
-ghost use Rattle.ring.specs.Table.{directions};
 ghost use Rattle.boxes.specs.StepBox.{step_box};
 ghost use Rattle.search.specs.OnDeck.{deck_turn};
 ghost use Rattle.sifting.specs.Sifted.{may_pass_at, is_full, KeptOver, SiftReady, SiftedInto, Around};
@@ -13,6 +12,7 @@ use decks::Deck;
 use geometry::Vec2;
 use hits::Hit;
 use keeping::Kept;
+use ring::{Directions, Ring};
 
 // What a sift leaves to look at: `count` numbers at the front of an array, and every polygon from number `rest` on.
 #[derive(Clone, Copy, Debug, PartialEq, Eq)]
@@ -25,24 +25,21 @@ pub struct Remaining {
 const MANY: usize = 128;
 
 // Whether polygon k may pass at a point of the box. Where not, it passes at none.
-#[tactic(auto, using(crate::proofs::EdgeLoop::edges))]
+#[tactic(auto, using(crate::proofs::EdgeWalk::edges))]
 fn may_pass(deck: &Deck<'_>, k: usize, bounds: BoundingBox) -> bool
     requires { k < length deck.now.polygons }
     ensures { result ≡ may_pass_at deck.now bounds k }
 {
-    let count = deck.corner_count(k);
-    let first = search::corner_point(deck, k, 0);
-    let mut a = first;
-    'edges: for j in 1..count {
-        let next = search::corner_point(deck, k, j);
-        match boxes::box_test(bounds, a, next) {
-            BoxTest::Never => return false,
-            BoxTest::Next => {}
-            BoxTest::Maybe => return true,
-        }
-        a = next;
-    }
-    boxes::box_test(bounds, a, first) != BoxTest::Never
+    let answer = geometry::first_of_edges(
+        deck.corner_count(k),
+        |j| search::corner_point(deck, k, j),
+        |a, b| match boxes::box_test(bounds, a, b) {
+            BoxTest::Never => Some(false),
+            BoxTest::Next => None,
+            BoxTest::Maybe => Some(true),
+        },
+    );
+    answer.unwrap_or(true)
 }
 
 // Whether a list of so many numbers takes no more: there is no room, or it has most of the polygons that were looked at, so that the box covers most of
@@ -84,34 +81,31 @@ pub fn sift(deck: &Deck<'_>, bounds: BoundingBox, source: Kept<'_>, into: &mut [
     }
 }
 
-// Of all polygons of a deck, those that some sample of the steps up to `last` around p may reach.
-pub fn sift_deck(deck: &Deck<'_>, p: Vec2, reach: f32, last: usize, into: &mut [u32]) -> Remaining
-    requires { Around p reach last }
-    ensures { SiftedInto deck.now (step_box p reach last) into.old into.new result }
+// Of all polygons of a deck, those that some sample of a last ring, or of the rings of the steps before it, may reach.
+pub fn sift_deck(deck: &Deck<'_>, last: Ring, into: &mut [u32]) -> Remaining
+    requires { Around last.center last.reach }
+    ensures { SiftedInto deck.now (step_box last.center last.reach last.step) into.old into.new result }
 {
-    let bounds = boxes::step_box(p, reach, last);
+    let bounds = boxes::step_box(last);
     sift(deck, bounds, keeping::every_polygon(), into)
 }
 
-// The turn of a deck in step s around p. The list is sifted once more, with the box of that step: a box test for each of its polygons, and then a point
-// test for each that is left at each sample.
+// The turn of a deck over a ring. The list is sifted once more, with the box of that ring: a box test for each of its polygons, and then a point test for
+// each that is left at each sample.
 pub fn turn(
     deck: &Deck<'_>,
-    table: &[i32; 2432],
-    p: Vec2,
-    reach: f32,
-    s: usize,
+    directions: &Directions,
+    ring: Ring,
     kept: Kept<'_>,
     near: &mut [u32],
 ) -> Option<Hit>
-    requires { Around p reach s × ((table.now ≡ directions)
-        × KeptOver deck.now (step_box p reach s) kept.numbers.now kept.rest) }
-    ensures { result ≡ deck_turn deck.now p reach s }
+    requires { Around ring.center ring.reach × KeptOver deck.now (step_box ring.center ring.reach ring.step) kept.numbers.now kept.rest }
+    ensures { result ≡ deck_turn deck.now ring.center ring.reach ring.step }
 {
-    let left = sift(deck, boxes::step_box(p, reach, s), kept, near);
+    let left = sift(deck, boxes::step_box(ring), kept, near);
     let nearer = Kept {
         numbers: &near[..left.count],
         rest: left.rest,
     };
-    keeping::first_hit(deck, table, p, reach, s, nearer)
+    keeping::first_hit(deck, directions, ring, nearer)
 }

@@ -1,5 +1,5 @@
-// Where decks share a vertex (document 01, section 8, `find_stitch_points`). The output is
-// memory that C lends, and a point's place in it is how many stand before it: nothing is allocated.
+// Where decks share a vertex (document 01, section 8, `find_stitch_points`). The output is memory that C lends, and a point's place in it is how many
+// stand before it: nothing is allocated.
 #![tactic(auto)]
 
 ghost use Rattle.std.specs.Prelude.{◌≡◌, [], ◌∷◌, ◌+◌, ◌<◌};

@@ -21,7 +21,7 @@ pub enum Wish {
     Wished(f32),
 }
 
-// A seat names one deck or leaves the deck open, and has a wished height or none.
+// What a seat asks: its place, and where it has them a deck and a height.
 #[derive(Clone, Copy, Debug, PartialEq)]
 pub struct Seat {
     pub place: Vec2,

@@ -1,5 +1,5 @@
 pub mod Examples
-pub mod EdgeLoop
+pub mod EdgeWalk
 pub mod Counting
 pub mod Reaching
 pub mod Doubling

@@ -27,7 +27,3 @@ touches ship a b = touches_on (deck_of ship (packed_deck a)) (packed_polygon a) 
 pub record PolygonThere (file : List ℕ) (a : ℕ) : Type 0 where
   pub deck : packed_deck a < decks_in file
   pub polygon : packed_polygon a < length (deck_of (decode file) (packed_deck a)).polygons
-
--- what `touches` needs
-pub record TouchReady (file : List ℕ) (a : ℕ) : Type 0 where
-  pub there : PolygonThere file a

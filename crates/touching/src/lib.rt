@@ -5,7 +5,7 @@ ghost use Rattle.std.specs.Prelude.{◌≡◌, ◌<◌, length};
 ghost use Rattle.words.specs.Rows.{has};
 ghost use Rattle.ship.specs.Model.{neighbours_of, corners_of};
 ghost use Rattle.ship.specs.Decode.{decode};
-ghost use Rattle.touching.specs.Touching.{corner_has, touches_on, touches, TouchReady};
+ghost use Rattle.touching.specs.Touching.{corner_has, touches_on, touches, PolygonThere};
 
 use decks::{Deck, Ship};
 
@@ -27,27 +27,23 @@ fn corner_has(deck: &Deck<'_>, k: usize, b: u32, j: usize) -> bool
 }
 
 // Whether it stands in the lists of both ends of an edge of polygon k.
+#[tactic(auto, using(crate::proofs::EdgeWalk::edging))]
 fn touches_on(deck: &Deck<'_>, k: usize, b: u32) -> bool
     requires { k < length deck.now.polygons }
     ensures { result ≡ touches_on deck.now k b }
 {
-    let count = deck.corner_count(k);
-    let first = corner_has(deck, k, b, 0);
-    let mut start = first;
-    'edges: for j in 1..count {
-        let end = corner_has(deck, k, b, j);
-        if start && end {
-            return true;
-        }
-        start = end;
-    }
-    start && first
+    let found = geometry::first_of_edges(
+        deck.corner_count(k),
+        |j| corner_has(deck, k, b, j),
+        |start, end| (start && end).then_some(()),
+    );
+    found.is_some()
 }
 
 // Whether packed a touches packed b.
-#[tactic(auto, using(crate::proofs::EdgeLoop::touching))]
+#[tactic(auto, using(crate::proofs::EdgeWalk::touching))]
 pub fn touches(ship: &Ship<'_>, a: u32, b: u32) -> bool
-    requires { TouchReady ship.now a }
+    requires { PolygonThere ship.now a }
     ensures { result ≡ touches (decode ship.now) a b }
 {
     let deck = ship.deck(decks::packed_deck(a));

@@ -15,7 +15,7 @@ use Rattle.ship.specs.Layout.{decks_in}
 use Rattle.ship.specs.Decode.{decode}
 use Rattle.ship.proofs.ModelFacts.{decks_length}
 use Rattle.towards.specs.declared.Place.{Place}
-use Rattle.towards.specs.Towards.{deck_gives, step_gives, all_given, first_of, TurnReady}
+use Rattle.towards.specs.Towards.{deck_gives, step_gives, all_given, first_of}
 
 -- the first of two lists, one after the other
 abbrev or_else : Option Place → Option Place → Option Place
@@ -88,10 +88,7 @@ pub decks_start : (file : List ℕ) (p direction : Vec2) (deck s : ℕ) → Deck
 unfolding step_gives
 decks_start file p direction deck s = record { same = let e : decks_in file - 0 ≡ decks_in file = omega arith in rw (e, decks_length file) }
 
-pub deck_turn : {file : List ℕ} {s d count : ℕ} → s < 16 → count ≡ decks_in file → d < count → TurnReady file s d
-deck_turn few all l = record { deck = omega arith; step = few }
-
-pub ruleset seeking_decks = (decks_start, deck_turn, seeking_none, seeking_other, seeking_missed, seeking_found)
+pub ruleset seeking_decks = (decks_start, seeking_none, seeking_other, seeking_missed, seeking_found)
 
 -- ---- `first_hit`
 abbrev pub StepSeeking : List ℕ → Vec2 → Vec2 → ℕ → ℕ → Type 0

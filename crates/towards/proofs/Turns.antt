@@ -29,7 +29,7 @@ use Rattle.ship.proofs.ModelFacts.{deck_of_within, decode_reach}
 use Rattle.search.specs.OnDeck.{next_hit}
 use Rattle.calls.specs.Closest.{entry_size, entry_bytes}
 use Rattle.towards.specs.declared.Place.{Place}
-use Rattle.towards.specs.Towards.{place_at, sample_towards, point_towards, passes_towards, deck_gives, place_bytes, first_of, TurnReady, PlaceReady, place_reply}
+use Rattle.towards.specs.Towards.{place_at, sample_towards, point_towards, passes_towards, deck_gives, place_bytes, first_of, PlaceReady, place_reply}
 
 -- ---- the first that passes, as a hit and as the first of all that pass
 abbrev found_on : ℕ → ℕ → Option Hit → Option Place
@@ -80,9 +80,6 @@ unfolding held
 bounds_towards = record { once = by_test 2000 tt; all = by_test 30000 tt; sample = by_test 2030000 tt; place = by_test 3030000 tt }
 
 module _ (file : List ℕ) (p direction : Vec2) {c : Place} (ready : PlaceReady file p direction c) where
-  pub ready_turn : TurnReady file c.step c.deck
-  ready_turn = ready.turn_ready
-
   pub ready_deck : first_no file ≡ Ok tt → c.deck < 256
   ready_deck passed = omega (arith, ready.turn_ready.deck, decks_few file passed)
 
@@ -115,4 +112,4 @@ module _ (file : List ℕ) (p direction : Vec2) {c : Place} (ready : PlaceReady 
       place_written at packed put =
           replied_written refl refl (room_fits (place_reply file p direction c) out entry_size 1 entry_long room has_room) refl (put ∙ rw (at, packed))
 
-pub ruleset placing = (ready_turn, ready_deck, ready_polygon, ready_point, place_short, place_room, place_written)
+pub ruleset placing = (ready_deck, ready_polygon, ready_point, place_short, place_room, place_written)

@@ -3,10 +3,11 @@
 
 ghost use Rattle.std.specs.Prelude.{◌≡◌, ◌<◌};
 ghost use Rattle.answers.specs.Replies.{Replied};
+ghost use Rattle.ship.specs.Layout.{decks_in};
 ghost use Rattle.ship.specs.Decode.{decode};
 ghost use Rattle.ship.specs.Questions.{first_no};
 ghost use Rattle.decks.specs.Opened.{opened};
-ghost use Rattle.towards.specs.Towards.{sample_towards, point_towards, deck_gives, step_gives, all_given, first_of, towards_check, TowardsReplied, TurnReady, PlaceReady, place_reply};
+ghost use Rattle.towards.specs.Towards.{sample_towards, point_towards, deck_gives, step_gives, all_given, first_of, towards_check, TowardsReplied, PlaceReady, place_reply};
 ghost use Rattle.towards.specs.Statement.{SnapSurveyed};
 
 use answers::{Answer, Refusal};
@@ -30,33 +31,57 @@ struct Line<'a> {
     direction: Vec2,
 }
 
-impl<'a> Line<'a> {
-    // The sample of step s on deck d, in the deck's own coordinates.
+// A deck's turn in a step of it.
+#[derive(Clone, Copy)]
+struct Turn<'a> {
+    line: &'a Line<'a>,
+    step: usize,
+    deck: usize,
+    ghost few: { step < 16 },
+    ghost there: { deck < decks_in line.now.ship.now },
+}
+
+impl Turn<'_> {
+    // Its sample, in the deck's own coordinates.
     #[tactic(auto, unfolding(crate::specs::Towards::sample_towards))]
-    fn sample_on(&self, s: usize, d: usize) -> Vec2
-        requires { TurnReady self.now.ship.now s d }
-        ensures { result ≡ sample_towards (decode self.now.ship.now) self.now.p self.now.direction s d }
+    fn sample(&self) -> Vec2
+        ensures { result ≡ sample_towards (decode self.now.line.now.ship.now) self.now.line.now.p self.now.line.now.direction
+            self.now.step self.now.deck }
     {
-        let around = self.p - self.ship.deck(d).offset();
-        ring::along(around, self.direction, self.ship.reach(), s)
+        let line = self.line;
+        let around = line.p - line.ship.deck(self.deck).offset();
+        ring::along(around, line.direction, line.ship.reach(), self.step)
     }
 
-    // The first polygon of deck d that passes there.
+    // The first polygon that passes there.
     #[tactic(auto, using(crate::proofs::Turns::turns))]
-    fn deck_hit(&self, s: usize, d: usize) -> Option<Place>
-        requires { TurnReady self.now.ship.now s d }
-        ensures { result ≡ first_of (deck_gives (decode self.now.ship.now) self.now.p self.now.direction s d) }
+    fn hit(&self) -> Option<Place>
+        ensures { result ≡ first_of (deck_gives (decode self.now.line.now.ship.now) self.now.line.now.p self.now.line.now.direction
+            self.now.step self.now.deck) }
     {
-        let q = self.sample_on(s, d);
-        let hit = search::next_hit(&self.ship.deck(d), q, s, 0)?;
+        let q = self.sample();
+        let hit = search::next_hit(&self.line.ship.deck(self.deck), q, self.step, 0)?;
         Some(Place {
-            step: s,
-            deck: d,
+            step: self.step,
+            deck: self.deck,
             polygon: hit.polygon,
         })
     }
 
-    // The same on the first deck that step s hits on, of the named deck or of all in rising order.
+    // Where it lies; and that the file passed, which bounds the numbers of its entry.
+    #[tactic(auto, unfolding(crate::specs::Towards::point_towards))]
+    fn point(&self) -> Vec2
+        ensures is { result ≡ point_towards (decode self.now.line.now.ship.now) self.now.line.now.p self.now.line.now.direction
+            self.now.step self.now.deck }
+        ensures passed { first_no self.now.line.now.ship.now ≡ Ok tt }
+    {
+        let sample = self.sample();
+        sample + self.line.ship.deck(self.deck).offset()
+    }
+}
+
+impl Line<'_> {
+    // The first place of step s, on the first deck that it hits on, of the named deck or of all in rising order.
     fn step_hit(&self, deck: u32, s: usize) -> Option<Place>
         requires { s < 16 }
         ensures { result ≡ first_of (step_gives (decode self.now.ship.now) self.now.p self.now.direction deck s) }
@@ -66,7 +91,13 @@ impl<'a> Line<'a> {
             if !answers::looks_at(deck, d) {
                 continue;
             }
-            if let Some(place) = self.deck_hit(s, d) {
+            // `&*self`: in a loop the parameter has to be lent again.
+            let turn = Turn {
+                line: &*self,
+                step: s,
+                deck: d,
+            };
+            if let Some(place) = turn.hit() {
                 return Some(place);
             }
         }
@@ -86,17 +117,6 @@ impl<'a> Line<'a> {
         None
     }
 
-    // Where a place lies; and that the file passed, which bounds the numbers of its entry.
-    #[tactic(auto, unfolding(crate::specs::Towards::point_towards))]
-    fn point_of(&self, place: Place) -> Vec2
-        requires { TurnReady self.now.ship.now place.step place.deck }
-        ensures is { result ≡ point_towards (decode self.now.ship.now) self.now.p self.now.direction place.step place.deck }
-        ensures passed { first_no self.now.ship.now ≡ Ok tt }
-    {
-        let sample = self.sample_on(place.step, place.deck);
-        sample + self.ship.deck(place.deck).offset()
-    }
-
     // The place that was found, where the output has room for it.
     fn put_place(&self, place: Place, out: &mut [u8]) -> Answer
         requires { PlaceReady self.now.ship.now self.now.p self.now.direction place }
@@ -105,7 +125,12 @@ impl<'a> Line<'a> {
         if !answers::room_for(ENTRY_SIZE, 1, out.len()) {
             return Err(Refusal::NoRoom);
         }
-        let point = self.point_of(place);
+        let turn = Turn {
+            line: self,
+            step: place.step,
+            deck: place.deck,
+        };
+        let point = turn.point();
         calls::put_candidate(out, 0, decks::packed(place.deck, place.polygon), point);
         Ok(1)
     }

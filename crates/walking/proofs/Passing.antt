@@ -5,7 +5,6 @@ use mathlib.Core.Path.{◌≡◌, ap, ◌∙◌, subst}
 use mathlib.Core.List.{List, []}
 use mir.Syntax.{w64}
 use mir.Val.{Fits}
-use lib.IntN.{ℤ}
 use lib.ListN.{length, get_or, drop, length-drop}
 use Rattle.geometry.specs.Bounds.{PointWithin}
 use Rattle.words.proofs.Writing.{NextOf, next_of}
@@ -33,10 +32,10 @@ pub record Passing (file blocked : List ℕ) (seat : Seat) (s n : ℕ) (next : N
   pub next_in : NextIn file next
   pub left_is : drop n (candidates (seen_by file blocked seat) s) ≡ left_of (seen_by file blocked seat) next
 
-pub passing_all : {file blocked : List ℕ} {table : List ℤ} {seat : Seat} {array : List ℕ} {s : ℕ} {next : Next} → WalkReady file blocked table seat array
+pub passing_all : {file blocked : List ℕ} {seat : Seat} {array : List ℕ} {s : ℕ} {next : Next} → WalkReady file blocked seat array
     → WalkedStep file (seen_by file blocked seat) s next → Passing file blocked seat s 0 next
 passing_all ready w =
-    record { passed = ready.search_ready.file_ready.file_passed; place_within = ready.search_ready.place_within; next_in = w.within; left_is = w.left_is }
+    record { passed = ready.file_passed; place_within = ready.search_ready.place_within; next_in = w.within; left_is = w.left_is }
 
 module _ {file blocked : List ℕ} {seat : Seat} {s n : ℕ} {next : Next} (h : Passing file blocked seat s n next) where
   pub passing_ended : {m : ℕ} → next ≡ Ended m → length (candidates (seen_by file blocked seat) s) ≤ n

@@ -3,7 +3,6 @@ use Prim.Native.Nat.{ℕ, ◌-◌, ◌≤◌, ◌<◌}
 use native.Mathlib.Omega.{arith}
 use mathlib.Core.Path.{◌≡◌}
 use mathlib.Core.List.{List}
-use lib.IntN.{ℤ}
 use lib.Ieee.{Float, binary32}
 use lib.Ieee.Bits.{of_bits-fits}
 use Rattle.geometry.specs.declared.Vec2.{Vec2}
@@ -78,53 +77,49 @@ module _ (file : List ℕ) {d : ℕ} {p : Vec2} (passed : first_no file ≡ Ok t
       in_search (sample_of (on_deck file p d) (decode file).reach s i) (sample_in_box close (reach_allowed file passed) (step_few file passed step) i)
 
 -- ---- `deck_turn`
-pub turn_here : {file blocked : List ℕ} {table : List ℤ} {seat : Seat} {array : List ℕ} {d s : ℕ} → WalkReady file blocked table seat array → TurnIn file d s
-    → TurnReady file table seat.place d s array
+pub turn_here : {file blocked : List ℕ} {seat : Seat} {array : List ℕ} {d s : ℕ} → WalkReady file blocked seat array → TurnIn file d s
+    → TurnReady file seat.place d s array
 turn_here ready turn =
-    record { file_ready = ready.search_ready.file_ready; place_within = ready.search_ready.place_within; turn = turn; sifted = ready.sifted }
+    record { file_passed = ready.file_passed; place_within = ready.search_ready.place_within; turn = turn; sifted = ready.sifted }
 
-module _ {file : List ℕ} {table : List ℤ} {p : Vec2} {d s : ℕ} {array : List ℕ} (ready : TurnReady file table p d s array) where
-  file_passed : first_no file ≡ Ok tt
-  file_passed = ready.file_ready.file_passed
-
+module _ {file : List ℕ} {p : Vec2} {d s : ℕ} {array : List ℕ} (ready : TurnReady file p d s array) where
   pub turn_room : ListsRoom array
   turn_room = ready.sifted.room
 
   pub turn_lies : LiesIn array (list_at array d)
   turn_lies = (ready.sifted.lists d ready.turn.deck).inside
 
+  pub turn_step : s < 16
+  turn_step = step_few file ready.file_passed ready.turn.step
+
   pub turn_deck : d < 256
-  turn_deck = omega (arith, ready.turn.deck, decks_few file file_passed)
+  turn_deck = omega (arith, ready.turn.deck, decks_few file ready.file_passed)
 
   module _ {deck : Deck} {offset around : Vec2} {reach : Float} (is : deck ≡ deck_of (decode file) d) (read : offset ≡ deck.offset) (moved : around ≡ sub_of p offset)
       (reached : reach ≡ (decode file).reach) where
-    pub turn_around : DeckWithin deck → Around around reach s
+    pub turn_around : DeckWithin deck → Around around reach
     turn_around within =
-        record {
-          point_within = rw (moved, read) (around_within ready.place_within within.offset);
-          reach_allowed = rw reached (reach_allowed file file_passed);
-          step_few = step_few file file_passed ready.turn.step;
-        }
+        record { point_within = rw (moved, read) (around_within ready.place_within within.offset); reach_allowed = rw reached (reach_allowed file ready.file_passed) }
 
     pub turn_kept : {numbers : List ℕ} {rest : ℕ} → numbers ≡ numbers_at array (list_at array d) → rest ≡ (list_at array d).rest
         → KeptOver deck (step_box around reach s) numbers rest
     turn_kept l r =
         rw (l, r, moved, read, reached, is)
-        (over_inner (ready.sifted.lists d ready.turn.deck).over (in_search file file_passed ready.turn.deck ready.place_within ready.turn.step))
+        (over_inner (ready.sifted.lists d ready.turn.deck).over (in_search file ready.file_passed ready.turn.deck ready.place_within ready.turn.step))
 
     pub turn_found : {hit : Option Hit} → hit ≡ deck_turn deck around reach s → hit ≡ turn (shown_by file p) s d
     turn_found e = turn_shown file d is p read moved reached s e
 
-pub ruleset turns = (turn_room, turn_lies, turn_deck, turn_around, turn_kept)
+pub ruleset turns = (turn_step, turn_room, turn_lies, turn_deck, turn_around, turn_kept)
 
--- ---- `next_passing`
-pub passing_kept : {file : List ℕ} {table : List ℤ} {p : Vec2} {c : Candidate} {array : List ℕ} {deck : Deck} {q : Vec2} {numbers : List ℕ} {rest : ℕ}
-    → TurnReady file table p c.deck c.step array → CandidateIn file c → deck ≡ deck_of (decode file) c.deck → q ≡ sample_on (decode file) p c → numbers ≡ numbers_at array (list_at array c.deck)
+-- ---- `after`: what is searched on the candidate's deck
+pub passing_kept : {file : List ℕ} {p : Vec2} {c : Candidate} {array : List ℕ} {deck : Deck} {q : Vec2} {numbers : List ℕ} {rest : ℕ}
+    → TurnReady file p c.deck c.step array → CandidateIn file c → deck ≡ deck_of (decode file) c.deck → q ≡ sample_on (decode file) p c → numbers ≡ numbers_at array (list_at array c.deck)
     → rest ≡ (list_at array c.deck).rest → KeptAt deck numbers rest q
 unfolding sample_on
 passing_kept {file} {c = c} ready on is at l r =
     let turn = ready.turn in
     rw (l, r, at, is)
-    (over_at (ready.sifted.lists c.deck turn.deck).over (sample_in_search file ready.file_ready.file_passed turn.deck ready.place_within turn.step c.sample))
+    (over_at (ready.sifted.lists c.deck turn.deck).over (sample_in_search file ready.file_passed turn.deck ready.place_within turn.step c.sample))
 
 pub ruleset nexts = (turn_room, turn_lies, turn_deck, passing_kept)

@@ -46,7 +46,7 @@ pub turn_shown : (file : List ℕ) (d : ℕ) {deck : Deck} → deck ≡ deck_of 
 unfolding shown_from turn deck_turn sample_on
 turn_shown file d is p offset moved reached s e = e ∙ rw (moved, offset, reached, is)
 
--- ---- `sample_on`
+-- ---- `sample`
 pub sample_shown : (file : List ℕ) (p : Vec2) (c : Candidate) {deck : Deck} {o around q : Vec2} {reach : Float} → deck ≡ deck_of (decode file) c.deck
     → o ≡ deck.offset → around ≡ sub_of p o → reach ≡ (decode file).reach → q ≡ sample_of around reach c.step c.sample → q ≡ sample_on (decode file) p c
 unfolding sample_on
@@ -56,17 +56,17 @@ module _ (file : List ℕ) (p : Vec2) (c : Candidate) {deck : Deck} (is : deck �
   pub polygon_there : CandidateIn file c → c.polygon < length deck.polygons
   polygon_there on = rw is on.polygon
 
-  -- ---- `place_of`
+  -- ---- `place`
   pub place_shown : {q o place : Vec2} → q ≡ sample_on (decode file) p c → o ≡ deck.offset → place ≡ add_of q o → place ≡ (shown_by file p).place c
   unfolding shown_from place_of
   place_shown eq eo e = e ∙ rw (eq, eo, is)
 
-  -- ---- `height_of`
+  -- ---- `height`
   pub height_shown : {place : Vec2} {h : Height} → place ≡ (shown_by file p).place c → h ≡ height_on deck c.polygon place → h ≡ (shown_by file p).height c
   unfolding shown_from
   height_shown at e = e ∙ rw (at, is)
 
-  -- ---- `next_passing`
+  -- ---- `after`
   pub next_fits : CandidateIn file c → DeckWithin deck → Fits w64 (c.polygon + 1)
   next_fits on within = record { fits = omega (arith, polygon_there on, within.few_polygons) }
 
@@ -75,6 +75,17 @@ module _ (file : List ℕ) (p : Vec2) (c : Candidate) {deck : Deck} (is : deck �
   unfolding shown_from passing_after next_hit sample_on
   next_shown {q} at e =
       e ∙ rw (at, is) (polygon_hit_same _ _ c.sample (λ k. refl) (c.polygon + 1) (length (deck_of (decode file) c.deck).polygons - (c.polygon + 1)))
+
+-- ---- `spot`: what a spot of a search says is of the candidate
+module _ {file ship : List ℕ} {p at : Vec2} {c c' : Candidate} (same : ship ≡ file) (spot : (at ≡ p) × (c' ≡ c)) where
+  pub spot_sample : {q : Vec2} → q ≡ sample_on (decode ship) at c' → q ≡ sample_on (decode file) p c
+  spot_sample e = e ∙ rw (same, spot.0, spot.1)
+
+  pub spot_place : {place : Vec2} → place ≡ (shown_by ship at).place c' → place ≡ (shown_by file p).place c
+  spot_place e = e ∙ rw (same, spot.0, spot.1)
+
+  pub spot_height : {h : Height} → h ≡ (shown_by ship at).height c' → h ≡ (shown_by file p).height c
+  spot_height e = e ∙ rw (same, spot.0, spot.1)
 
 -- a step of a passed file is one of sixteen
 pub step_few : (file : List ℕ) → first_no file ≡ Ok tt → {s : ℕ} → s < steps_in file → s < 16

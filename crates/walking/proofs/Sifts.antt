@@ -8,6 +8,7 @@ use lib.Dec.{ltb}
 use lib.ListN.{length, take, drop}
 use lib.Ieee.{Float}
 use borrow.Author.Tests.{ltb-true, ltb-false}
+use Rattle.std.specs.Prelude.{Ok}
 use Rattle.geometry.specs.declared.Vec2.{Vec2}
 use Rattle.geometry.specs.Plane.{sub_of}
 use Rattle.boxes.specs.StepBox.{step_box}
@@ -16,6 +17,7 @@ use lib.Seq.{drop-append_seam}
 use Rattle.std.proofs.lemmas.List.{length-drop, length-take-le, take-append-le}
 use Rattle.std.proofs.lemmas.Slice.{take-put_mid_below}
 use Rattle.ship.specs.Layout.{decks_in}
+use Rattle.ship.specs.Questions.{first_no}
 use Rattle.ship.specs.Model.{Deck, deck_of}
 use Rattle.ship.specs.Decode.{decode}
 use Rattle.ship.specs.Within.{DeckWithin}
@@ -45,17 +47,13 @@ module _ (array room : List ℕ) {at : ℕ} (inside : at ≤ length array) where
       ap (λ (n : ℕ). drop n (lent array at room)) (sym (length-take-le at array inside)) ∙ drop-append_seam (take at array) (room ++ behind) in
       ap (take count) here ∙ take-append-le count room behind h
 
--- ---- a deck that a list is made for
-pub ready_few : {file : List ℕ} {p : Vec2} {d : ℕ} → DeckReady file p d → d < 256
-ready_few {file} ready = omega (arith, ready.there, decks_few file ready.file_passed)
-
 -- ---- deck d's list is written, and its numbers stand from `at` on; the lists before it stand as they stood
 abbrev pub listed : ℕ → Remaining → ListPlace
 listed at left = record { start = at; count = left.count; rest = left.rest }
 
 module _ {file : List ℕ} {p : Vec2} {array : List ℕ} {at d : ℕ} (b : ListsBelow file p array at d) (there : d < decks_in file) where
   pub deck_few : d < 256
-  deck_few = omega (arith, decks_few file b.ready.file_passed)
+  deck_few = omega (arith, decks_few file b.file_passed)
 
   module _ {room : List ℕ} {left : Remaining} (l : DeckListed file p d (mid_of at (length array - at) array) room left) where
     pub lent_long : length (lent array at room) ≡ length array
@@ -121,7 +119,7 @@ module _ {file : List ℕ} {p : Vec2} {array : List ℕ} {at d : ℕ} (b : Lists
     list_place = omega (arith, numbers_fit, b.ready.room.few)
 
     pub list_rest : left.rest < 2 ^ 31
-    list_rest = omega (arith, l.kept_over.list.there, (deck_of_within file d b.ready.file_passed there).few_polygons)
+    list_rest = omega (arith, l.kept_over.list.there, (deck_of_within file d b.file_passed there).few_polygons)
 
     module _ {array'' : List ℕ} (put : array'' ≡ with_list (lent array at room) d (listed at left)) where
       pub list_long : length array'' ≡ length array
@@ -130,9 +128,9 @@ module _ {file : List ℕ} {p : Vec2} {array : List ℕ} {at d : ℕ} (b : Lists
       pub one_list_more : ListsBelow file p array'' (at + left.count) (d + 1)
       one_list_more =
           record {
+            file_passed = b.file_passed;
             ready =
                 record {
-                  file_passed = b.ready.file_passed;
                   place_within = b.ready.place_within;
                   room = record { room = omega (arith, b.ready.room.room, list_long); few = omega (arith, b.ready.room.few, list_long) };
                 };
@@ -159,15 +157,11 @@ module _ {file : List ℕ} {p : Vec2} {d : ℕ} (ready : DeckReady file p d) {de
   unfolding search_box
   box_is = rw (moved, read, reached, stepped, is, steps_in_lem file)
 
-  pub deck_around : 1 ≤ steps → steps ≤ 16 → DeckWithin deck → Around around reach (steps - 1)
-  deck_around some few within =
-      record {
-        point_within = rw (moved, read) (around_within ready.place_within within.offset);
-        reach_allowed = rw reached (reach_allowed file ready.file_passed);
-        step_few = omega arith;
-      }
+  pub deck_around : first_no file ≡ Ok tt → DeckWithin deck → Around around reach
+  deck_around passed within =
+      record { point_within = rw (moved, read) (around_within ready.place_within within.offset); reach_allowed = rw reached (reach_allowed file passed) }
 
   pub deck_listed : {before after : List ℕ} {left : Remaining} → SiftedInto deck (step_box around reach (steps - 1)) before after left → DeckListed file p d before after left
   deck_listed sifted = record { kept_over = rw (← box_is, ← is) sifted.kept_over; inside = sifted.inside; long = sifted.long }
 
-pub ruleset decks = (ready_few, shut_list, deck_around, deck_listed)
+pub ruleset decks = (shut_list, deck_around, deck_listed)

@@ -7,7 +7,6 @@ use native.Mathlib.Omega.{arith}
 use native.Mathlib.Nat.{add_assoc, add-zero}
 use mir.Syntax.{w64}
 use mir.Val.{Fits}
-use lib.IntN.{ℤ}
 use lib.ListN.{length}
 use Rattle.words.proofs.Collecting.{collect_yes, collect_no, collect_none, sum_yes, sum_no, sum_none}
 use Rattle.hits.specs.declared.Candidate.{Candidate}
@@ -24,19 +23,16 @@ use Rattle.survey.specs.Search.{turn, turn_gives, turn_tried, candidates_from, t
 use Rattle.survey.proofs.Loops.{passing_missed, passing_at, hit_polygon, hit_sample, gives_hit, turn_tried_bound}
 use Rattle.walking.specs.declared.Next.{Next}
 use Rattle.walking.specs.declared.Next.TheVariants.{Reached, Ended}
-use Rattle.walking.specs.Sees.{shown_by, seen_by, FileReady, CandidateIn}
+use Rattle.walking.specs.Sees.{shown_by, seen_by, CandidateIn}
 use Rattle.walking.specs.Lists.{WalkReady}
 use Rattle.walking.specs.Walk.{passing_after, candidates_after, tried_after, Walked, WalkedFrom, WalkedStep, WalkedAfter}
 use Rattle.walking.proofs.ShownLaws.{polygons_shown, step_few}
 use Rattle.std.specs.Prelude.{Option, Some, None, Ok}
 
 -- ---- what a walk is given
-module _ {file blocked : List ℕ} {table : List ℤ} {seat : Seat} {array : List ℕ} (ready : WalkReady file blocked table seat array) where
-  pub walk_file : FileReady file table
-  walk_file = ready.search_ready.file_ready
-
+module _ {file blocked : List ℕ} {seat : Seat} {array : List ℕ} (ready : WalkReady file blocked seat array) where
   pub walk_passed : first_no file ≡ Ok tt
-  walk_passed = walk_file.file_passed
+  walk_passed = ready.file_passed
 
   pub walk_blocked : length blocked ≡ 32
   walk_blocked = ready.search_ready.blocked_long

@@ -1,5 +1,5 @@
 -- What the kept lists of a seat's search promise, deck by deck.
-use Rattle.std.specs.Prelude.{ℕ, ◌+◌, ◌-◌, ◌≤◌, ◌<◌, ◌≡◌, List, ℤ, length, Ok}
+use Rattle.std.specs.Prelude.{ℕ, ◌+◌, ◌-◌, ◌≤◌, ◌<◌, ◌≡◌, List, length, Ok}
 use Rattle.geometry.specs.declared.Vec2.{Vec2}
 use Rattle.geometry.specs.Plane.{sub_of}
 use Rattle.geometry.specs.Bounds.{PointWithin}
@@ -14,7 +14,7 @@ use Rattle.keeping.specs.Lists.{lists_size, list_at, numbers_at, LiesIn, ListsRo
 use Rattle.sifting.specs.declared.Remaining.{Remaining}
 use Rattle.sifting.specs.Sifted.{KeptOver, SiftedInto}
 use Rattle.survey.specs.declared.Seat.{Seat}
-use Rattle.walking.specs.Sees.{FileReady, SearchReady, TurnIn}
+use Rattle.walking.specs.Sees.{SearchReady, TurnIn}
 
 -- deck d's box of the last step, in its own coordinates: every sample of a search around p lies in it
 unfoldable pub search_box : List ℕ → Vec2 → ℕ → BoundingBox
@@ -31,20 +31,20 @@ pub record Sifted (file : List ℕ) (p : Vec2) (array : List ℕ) : Type 0 where
   pub lists : (d : ℕ) → d < decks_in file → DeckKept file p array d (list_at array d)
 
 -- ---- what the functions of a walk need
-pub record WalkReady (file blocked : List ℕ) (table : List ℤ) (seat : Seat) (array : List ℕ) : Type 0 where
-  pub search_ready : SearchReady file blocked table seat
+pub record WalkReady (file blocked : List ℕ) (seat : Seat) (array : List ℕ) : Type 0 where
+  pub file_passed : first_no file ≡ Ok tt
+  pub search_ready : SearchReady blocked seat
   pub sifted : Sifted file seat.place array
 
 -- deck d's turn in step s
-pub record TurnReady (file : List ℕ) (table : List ℤ) (p : Vec2) (d s : ℕ) (array : List ℕ) : Type 0 where
-  pub file_ready : FileReady file table
+pub record TurnReady (file : List ℕ) (p : Vec2) (d s : ℕ) (array : List ℕ) : Type 0 where
+  pub file_passed : first_no file ≡ Ok tt
   pub place_within : PointWithin 1000000 p
   pub turn : TurnIn file d s
   pub sifted : Sifted file p array
 
--- a passed file, a point, and an array for the lists
-pub record ListsReady (file : List ℕ) (p : Vec2) (array : List ℕ) : Type 0 where
-  pub file_passed : first_no file ≡ Ok tt
+-- a point, and an array for the lists
+pub record ListsReady (p : Vec2) (array : List ℕ) : Type 0 where
   pub place_within : PointWithin 1000000 p
   pub room : ListsRoom array
 
@@ -54,16 +54,16 @@ pub record DeckList (file : List ℕ) (p : Vec2) (array : List ℕ) (at d : ℕ)
   pub past : lists_size ≤ list.start
   pub below : list.start + list.count ≤ at
 
--- the decks below e have theirs
+-- the decks of a passed file below e have theirs
 pub record ListsBelow (file : List ℕ) (p : Vec2) (array : List ℕ) (at e : ℕ) : Type 0 where
-  pub ready : ListsReady file p array
+  pub file_passed : first_no file ≡ Ok tt
+  pub ready : ListsReady p array
   pub past : lists_size ≤ at
   pub inside : at ≤ length array
   pub lists : (d : ℕ) → d < e → DeckList file p array at d (list_at array d)
 
 -- ---- a list for deck d is made
 pub record DeckReady (file : List ℕ) (p : Vec2) (d : ℕ) : Type 0 where
-  pub file_passed : first_no file ≡ Ok tt
   pub place_within : PointWithin 1000000 p
   pub there : d < decks_in file
 

@@ -1,14 +1,12 @@
 -- What a seat sees of a ship (document 01, sections 5 to 7).
-use Rattle.std.specs.Prelude.{ℕ, ◌*◌, ◌≤◌, ◌<◌, ◌^◌, ◌≡◌, List, length, ℤ, Ok}
+use Rattle.std.specs.Prelude.{ℕ, ◌*◌, ◌≤◌, ◌<◌, ◌^◌, ◌≡◌, List, length}
 use Rattle.geometry.specs.declared.Vec2.{Vec2}
 use Rattle.geometry.specs.declared.Height.{Height}
 use Rattle.geometry.specs.Plane.{add_of, sub_of}
 use Rattle.geometry.specs.Bounds.{PointWithin, HeightWithin}
-use Rattle.ring.specs.Table.{directions}
 use Rattle.ring.specs.Sample.{sample_of}
 use Rattle.hits.specs.declared.Candidate.{Candidate}
 use Rattle.ship.specs.Layout.{decks_in, steps_in}
-use Rattle.ship.specs.Questions.{first_no}
 use Rattle.ship.specs.Decode.{decode}
 use Rattle.ship.specs.Model.{Ship, deck_of}
 use Rattle.survey.specs.declared.Seat.{Seat}
@@ -45,14 +43,8 @@ abbrev pub seen_by : List ℕ → List ℕ → Seat → View
 seen_by file blocked seat = view (decode file) blocked seat
 
 -- ---- what the functions of a search need
--- a passed file, and the table
-pub record FileReady (file : List ℕ) (table : List ℤ) : Type 0 where
-  pub file_passed : first_no file ≡ Ok tt
-  pub table_is : table ≡ directions
-
 -- a whole blocked set, and a seat that passed question 16
-pub record SearchReady (file blocked : List ℕ) (table : List ℤ) (seat : Seat) : Type 0 where
-  pub file_ready : FileReady file table
+pub record SearchReady (blocked : List ℕ) (seat : Seat) : Type 0 where
   pub blocked_long : length blocked ≡ 32
   pub place_within : PointWithin 1000000 seat.place
 

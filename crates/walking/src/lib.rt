@@ -2,32 +2,33 @@
 // the run chooses one, a call writes them. Before its first step the decks are sifted, and every step looks at the lists that were kept.
 #![tactic(auto)]
 
-ghost use Rattle.std.specs.Prelude.{◌≡◌, ◌≤◌, ◌<◌, length};
-ghost use Rattle.ring.specs.Table.{directions};
+ghost use Rattle.std.specs.Prelude.{◌≡◌, ◌≤◌, ◌<◌, Ok, length};
 ghost use Rattle.ship.specs.Layout.{decks_in, steps_in};
 ghost use Rattle.ship.specs.Decode.{decode};
+ghost use Rattle.ship.specs.Questions.{first_no};
 ghost use Rattle.survey.specs.Search.{turn, candidates};
 ghost use Rattle.walking.specs.Sees.{sample_on, shown_by, seen_by, TurnIn, CandidateIn};
 ghost use Rattle.walking.specs.Lists.{Sifted, WalkReady, ListsReady, DeckReady, DeckListed};
 ghost use Rattle.walking.specs.Walk.{passing_after, WalkedFrom, WalkedStep, WalkedAfter};
-ghost use Rattle.walking.specs.Ready.{ready_prop};
+ghost use Rattle.walking.specs.Ready.{ready_prop, candidate_prop};
 
 use decks::Ship;
 use geometry::{Height, Vec2};
 use hits::{Candidate, Hit};
 use keeping::{LISTS_SIZE, ListPlace};
+use ring::{Directions, Ring};
 use sifting::Remaining;
 use survey::Seat;
 
-// The search of a seat: the ship, the blocked decks, the table of directions, the seat, and the decks' kept lists, which serve each of its steps.
+// The search of a seat: the ship, the blocked decks, the directions, the seat, and the decks' kept lists, which serve each of its steps.
 #[derive(Clone, Copy)]
 pub struct Search<'a> {
     pub ship: &'a Ship<'a>,
     pub blocked: &'a [u8],
-    pub table: &'a [i32; 2432],
+    pub directions: &'a Directions,
     pub seat: Seat,
     pub kept: &'a [u32],
-    pub ghost ready: { WalkReady ship.now blocked.now table.now seat kept.now } by { ready_prop ship.now blocked.now table.now seat kept.now },
+    pub ghost ready: { WalkReady ship.now blocked.now seat kept.now } by { ready_prop ship.now blocked.now seat kept.now },
 }
 
 // A step of a search, and how many candidates it has.
@@ -39,6 +40,16 @@ pub struct Step<'a> {
     pub ghost there: { number < steps_in search.now.ship.now },
     pub ghost counted: { count ≡ length
         (candidates (seen_by search.now.ship.now search.now.blocked.now search.now.seat) number) },
+}
+
+// A candidate of a search around p, whose sample and polygon are there.
+#[derive(Clone, Copy)]
+pub struct Spot<'a> {
+    pub ship: &'a Ship<'a>,
+    pub directions: &'a Directions,
+    pub p: Vec2,
+    pub candidate: Candidate,
+    pub ghost there: { CandidateIn ship.now candidate } by { candidate_prop ship.now candidate },
 }
 
 // Where a walk came to: a candidate, or the end of the step. With it, how many samples the turns on the way took. No `Option`, since the end has
@@ -55,14 +66,17 @@ fn reached_on(ship: &Ship<'_>, p: Vec2, d: usize, room: &mut [u32]) -> Remaining
     ensures { DeckListed ship.now p d room.old room.new result }
 {
     let deck = ship.deck(d);
-    let around = p - deck.offset();
-    let last = ship.steps() - 1;
-    sifting::sift_deck(&deck, around, ship.reach(), last, room)
+    let last = Ring {
+        center: p - deck.offset(),
+        step: ship.steps() - 1,
+        reach: ship.reach(),
+    };
+    sifting::sift_deck(&deck, last, room)
 }
 
 // Deck d's list. A deck that is not open is not gone over: of it every polygon stays one to look at.
 fn deck_list(ship: &Ship<'_>, blocked: &[u8], seat: Seat, d: usize, room: &mut [u32]) -> Remaining
-    requires { DeckReady ship.now seat.place d × (length blocked.now ≡ 32) }
+    requires { DeckReady ship.now seat.place d × ((d < 256) × (length blocked.now ≡ 32)) }
     ensures { DeckListed ship.now seat.place d room.old room.new result }
 {
     let choice = seat.choice;
@@ -74,8 +88,9 @@ fn deck_list(ship: &Ship<'_>, blocked: &[u8], seat: Seat, d: usize, room: &mut [
 
 // Each deck's list, before the first step of a seat's search.
 pub fn sift_decks(ship: &Ship<'_>, blocked: &[u8], seat: Seat, kept: &mut [u32])
-    requires { ListsReady ship.now seat.place kept.old × (length blocked.now ≡ 32) }
-    ensures { Sifted ship.now seat.place kept.new }
+    requires { ListsReady seat.place kept.old × (length blocked.now ≡ 32) }
+    ensures sifted { Sifted ship.now seat.place kept.new }
+    ensures passed { first_no ship.now ≡ Ok tt }
 {
     let decks = ship.deck_count();
     let mut at = LISTS_SIZE;
@@ -94,31 +109,35 @@ pub fn sift_decks(ship: &Ship<'_>, blocked: &[u8], seat: Seat, kept: &mut [u32])
     }
 }
 
-// The candidate's sample, in the coordinates of its deck. This and the next two take a ship, the table and a point, and no search, which asks for more.
-fn sample_on(ship: &Ship<'_>, table: &[i32; 2432], p: Vec2, c: Candidate) -> Vec2
-    requires { (table.now ≡ directions) × CandidateIn ship.now c }
-    ensures { result ≡ sample_on (decode ship.now) p c }
-{
-    let around = p - ship.deck(c.deck).offset();
-    ring::sample(table, around, ship.reach(), c.step, c.sample)
-}
+impl Spot<'_> {
+    // Its sample, in the coordinates of its deck.
+    fn sample(&self) -> Vec2
+        ensures { result ≡ sample_on (decode self.now.ship.now) self.now.p self.now.candidate }
+    {
+        let c = self.candidate;
+        let ring = Ring {
+            center: self.p - self.ship.deck(c.deck).offset(),
+            reach: self.ship.reach(),
+            step: c.step,
+        };
+        self.directions.sample(ring, c.sample)
+    }
 
-// Where the candidate lies.
-pub fn place_of(ship: &Ship<'_>, table: &[i32; 2432], p: Vec2, c: Candidate) -> Vec2
-    requires { (table.now ≡ directions) × CandidateIn ship.now c }
-    ensures { result ≡ (shown_by ship.now p).place c }
-{
-    sample_on(ship, table, p, c) + ship.deck(c.deck).offset()
-}
+    // Where it lies.
+    pub fn place(&self) -> Vec2
+        ensures { result ≡ (shown_by self.now.ship.now self.now.p).place self.now.candidate }
+    {
+        self.sample() + self.ship.deck(self.candidate.deck).offset()
+    }
 
-// The height there.
-#[tactic(auto, using(crate::proofs::ShownLaws::shows))]
-pub fn height_of(ship: &Ship<'_>, table: &[i32; 2432], p: Vec2, c: Candidate) -> Height
-    requires { (table.now ≡ directions) × CandidateIn ship.now c }
-    ensures { result ≡ (shown_by ship.now p).height c }
-{
-    let deck = ship.deck(c.deck);
-    search::height_at(&deck, c.polygon, place_of(ship, table, p, c))
+    // The height there.
+    #[tactic(auto, using(crate::proofs::ShownLaws::shows))]
+    pub fn height(&self) -> Height
+        ensures { result ≡ (shown_by self.now.ship.now self.now.p).height self.now.candidate }
+    {
+        let deck = self.ship.deck(self.candidate.deck);
+        search::height_at(&deck, self.candidate.polygon, self.place())
+    }
 }
 
 impl<'a> Search<'a> {
@@ -130,43 +149,34 @@ impl<'a> Search<'a> {
         ensures { result ≡ turn (shown_by self.now.ship.now self.now.seat.place) s d }
     {
         let deck = self.ship.deck(d);
-        let around = self.seat.place - deck.offset();
+        let center = self.seat.place - deck.offset();
         let list = keeping::list_of(self.kept, d);
-        sifting::turn(&deck, self.table, around, self.ship.reach(), s, list, near)
+        let ring = Ring {
+            center,
+            reach: self.ship.reach(),
+            step: s,
+        };
+        sifting::turn(&deck, self.directions, ring, list, near)
     }
 
-    // Where the candidate lies.
-    pub fn place_of(&self, c: Candidate) -> Vec2
+    // A candidate of this search.
+    pub fn spot(&self, c: Candidate) -> Spot<'a>
         requires { CandidateIn self.now.ship.now c }
-        ensures { result ≡ (shown_by self.now.ship.now self.now.seat.place).place c }
+        ensures ship { result.ship.now ≡ self.now.ship.now }
+        ensures at { (result.p ≡ self.now.seat.place) × (result.candidate ≡ c) }
     {
-        place_of(self.ship, self.table, self.seat.place, c)
-    }
-
-    // The height there.
-    pub fn height_of(&self, c: Candidate) -> Height
-        requires { CandidateIn self.now.ship.now c }
-        ensures { result ≡ (shown_by self.now.ship.now self.now.seat.place).height c }
-    {
-        height_of(self.ship, self.table, self.seat.place, c)
-    }
-
-    // The next polygon after c's that passes at its sample.
-    fn next_passing(&self, c: Candidate) -> Option<Hit>
-        requires { CandidateIn self.now.ship.now c }
-        ensures { result ≡ passing_after (shown_by self.now.ship.now self.now.seat.place) c }
-    {
-        let deck = self.ship.deck(c.deck);
-        let q = sample_on(self.ship, self.table, self.seat.place, c);
-        let list = keeping::list_of(self.kept, c.deck);
-        keeping::next_hit(&deck, q, c.sample, c.polygon + 1, list)
+        Spot {
+            ship: self.ship,
+            directions: self.directions,
+            p: self.seat.place,
+            candidate: c,
+        }
     }
 
     // The first candidate of step s on the decks from d on.
     fn turns_from(&self, s: usize, d: usize, near: &mut [u32]) -> Next
         requires { (s < steps_in self.now.ship.now) × (d ≤ decks_in self.now.ship.now) }
-        ensures { WalkedFrom self.now.ship.now
-            (seen self.now) s d result }
+        ensures { WalkedFrom self.now.ship.now (seen self.now) s d result }
     {
         let decks = self.ship.deck_count();
         let choice = self.seat.choice;
@@ -193,8 +203,7 @@ impl<'a> Search<'a> {
     // The first candidate of step s.
     pub fn first(&self, s: usize, near: &mut [u32]) -> Next
         requires { s < steps_in self.now.ship.now }
-        ensures { WalkedStep self.now.ship.now
-            (seen self.now) s result }
+        ensures { WalkedStep self.now.ship.now (seen self.now) s result }
     {
         self.turns_from(s, 0, near)
     }
@@ -202,10 +211,12 @@ impl<'a> Search<'a> {
     // The candidate that comes after c in its step.
     pub fn after(&self, c: Candidate, near: &mut [u32]) -> Next
         requires { CandidateIn self.now.ship.now c }
-        ensures { WalkedAfter self.now.ship.now
-            (seen self.now) c result }
+        ensures { WalkedAfter self.now.ship.now (seen self.now) c result }
     {
-        match self.next_passing(c) {
+        let deck = self.ship.deck(c.deck);
+        let q = self.spot(c).sample();
+        let list = keeping::list_of(self.kept, c.deck);
+        match keeping::next_hit(&deck, q, c.sample, c.polygon + 1, list) {
             Some(hit) => {
                 let next = Candidate {
                     polygon: hit.polygon,

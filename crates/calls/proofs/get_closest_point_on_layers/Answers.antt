@@ -16,7 +16,7 @@ returns-in_err-ship c =
 pub place_seat-found-requires : goal.place_seat-found-requires
 place_seat-found-requires c =
     let o = was_opened _ _ c.query_check.ensures c.in_ok-ship.was in
-    (query_ready _ _ _ _ o.0 o.1 c.all_directions-table.ensures c.asked_at-seat.ensures, search rules)
+    (query_ready _ _ _ _ o.0 c.asked_at-seat.ensures, search rules)
 
 pub returns-then-unplaced : goal.returns-then-unplaced
 returns-then-unplaced c =

@@ -3,7 +3,7 @@ use borrow.Author.Rules.{rules}
 use Rattle.answers.proofs.Asking.{handed_on}
 use Rattle.answers.proofs.Replying.{replied_refused}
 use Rattle.decks.proofs.Opening.{open_no, was_opened}
-use Rattle.calls.proofs.Queries.{query_ready}
+use Rattle.calls.proofs.Queries.{query_ready, query_walk}
 use Rattle.calls.proofs.ClosestCalls.{points_none, step_below, points_count, points_replied}
 use Rattle.calls.proofs.get_closest_points_on_layers.Goals as goal
 
@@ -14,18 +14,12 @@ returns-in_err-ship c =
 pub place_seat-found-requires : goal.place_seat-found-requires
 place_seat-found-requires c =
     let o = was_opened _ _ c.query_check.ensures c.in_ok-ship.was in
-    (query_ready _ _ _ _ o.0 o.1 c.all_directions-table.ensures c.asked_at-seat.ensures, search rules)
+    (query_ready _ _ _ _ o.0 c.asked_at-seat.ensures, search rules)
 
 pub invariant_of-search : goal.invariant_of-search
 invariant_of-search c =
     let o = was_opened _ _ c.query_check.ensures c.in_ok-ship.was in
-    record {
-      ready =
-          record {
-            search_ready = query_ready _ _ _ _ o.0 o.1 c.all_directions-table.ensures c.asked_at-seat.ensures;
-            sifted = c.place_seat-found.ensures.1;
-          };
-    }
+    record { ready = query_walk _ _ _ _ o.0 o.1 c.asked_at-seat.ensures c.place_seat-found.ensures.1 }
 
 pub returns-then-unplaced : goal.returns-then-unplaced
 returns-then-unplaced c =

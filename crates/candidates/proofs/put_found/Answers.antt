@@ -1,14 +1,13 @@
 -- `put_found` meets its contract.
 use borrow.Author.Rules.{rules}
-use Rattle.candidates.proofs.FoundNumbers.{found_ready, found_none, found_below, found_count, found_fits, found_some}
+use Rattle.candidates.proofs.FoundNumbers.{found_ready, found_walk, found_none, found_below, found_count, found_fits, found_some}
 use Rattle.candidates.proofs.put_found.Goals as goal
 
 pub place_seat-found-requires : goal.place_seat-found-requires
-place_seat-found-requires c = (found_ready c.requires c.asked_at-seat.ensures c.all_directions-table.ensures, search rules)
+place_seat-found-requires c = (found_ready c.requires c.asked_at-seat.ensures, search rules)
 
 pub invariant_of-search : goal.invariant_of-search
-invariant_of-search c =
-    record { ready = record { search_ready = found_ready c.requires c.asked_at-seat.ensures c.all_directions-table.ensures; sifted = c.place_seat-found.ensures.1 } }
+invariant_of-search c = record { ready = found_walk c.requires c.asked_at-seat.ensures c.place_seat-found.ensures.1 }
 
 pub returns-then-unplaced : goal.returns-then-unplaced
 returns-then-unplaced c =

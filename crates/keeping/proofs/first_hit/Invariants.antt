@@ -8,7 +8,7 @@ abbrev pub invariant-polygons : goal.invariant-polygons
 invariant-polygons l = Looked l.deck l.kept.numbers.now l.kept.rest l.q 0 l.j
 
 abbrev pub invariant-samples : goal.invariant-samples
-invariant-samples l = (l.i < l.samples) × SamplesLeft l.deck l.p l.reach l.s l.i
+invariant-samples l = (l.i < l.samples) × SamplesLeft l.deck l.ring.center l.ring.reach l.ring.step l.i
 
 abbrev pub decreases-samples : goal.decreases-samples
 decreases-samples l = l.samples - l.i

@@ -13,7 +13,7 @@ pub returns-then-not-rooms_fit-clause-replied : goal.returns-then-not-rooms_fit-
 returns-then-not-rooms_fit-clause-replied c = search (c.in_ok-ship.was, loads_call, rules)
 
 pub invariant_of-run : goal.invariant_of-run
-invariant_of-run c = record { ready = search (c.in_ok-ship.was, loads_call, rules) }
+invariant_of-run c = record { passed = search (c.in_ok-ship.was, loads_call, rules) }
 
 -- by its paths: the search breaks off
 pub put_table-requires : goal.put_table-requires

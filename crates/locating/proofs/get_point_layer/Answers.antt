@@ -10,8 +10,8 @@ returns-in_err-ship c = search (c.in_err-ship.was, handed_on c.from_residual.ens
 pub returns-then-not-room_for : goal.returns-then-not-room_for
 returns-then-not-room_for c = search (c.in_ok-ship.was, layers, rules)
 
-pub put_front-requires : goal.put_front-requires
-put_front-requires c = search (c.in_ok-ship.was, layers, rules)
+pub put_words-requires : goal.put_words-requires
+put_words-requires c = search (c.in_ok-ship.was, layers, rules)
 
 pub returns : goal.returns
 returns c = search (c.in_ok-ship.was, layers, rules)

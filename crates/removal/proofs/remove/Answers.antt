@@ -1,7 +1,7 @@
 -- `remove` meets its contract.
 use borrow.Author.Rules.{rules}
 use Rattle.answers.proofs.Asking.{handed_on}
-use Rattle.removal.proofs.Replies.{removal_refused, removal_short, file_ready, removal_written}
+use Rattle.removal.proofs.Replies.{removal_refused, removal_short, removal_written}
 use Rattle.removal.proofs.remove.Goals as goal
 
 pub returns-in_err-ship : goal.returns-in_err-ship
@@ -9,9 +9,6 @@ returns-in_err-ship c = rw (handed_on c.from_residual.ensures.1) (removal_refuse
 
 pub returns-then-out-size : goal.returns-then-out-size
 returns-then-out-size c = removal_short _ _ c.open.ensures c.in_ok-ship.was _ c.new_size-size.ensures (search rules)
-
-pub put_file-requires : goal.put_file-requires
-put_file-requires c = file_ready _ _ c.open.ensures c.in_ok-ship.was _ c.new_size-size.ensures (search rules)
 
 pub returns : goal.returns
 returns c =

@@ -3,8 +3,8 @@ use borrow.Author.Rules.{rules}
 use Rattle.seat_run.proofs.RunLoop.{seat_put}
 use Rattle.seat_run.proofs.put_seat.Goals as goal
 
-pub seat_at-seat-requires : goal.seat_at-seat-requires
-seat_at-seat-requires c = search (c.args.run.now.ready, seat_put, rules)
+pub seat-requires : goal.seat-requires
+seat-requires c = search (c.args.run.now.passed, seat_put, rules)
 
 pub place_seat-record-requires : goal.place_seat-record-requires
-place_seat-record-requires c = search (c.args.run.now.ready, c.args.lists.now.room, seat_put, rules)
+place_seat-record-requires c = search (c.args.run.now.passed, c.args.lists.now.room, seat_put, rules)

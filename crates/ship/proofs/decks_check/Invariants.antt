@@ -1,8 +1,0 @@
--- `decks_check` meets its contract. The loop's invariant: the answer for all decks is the answer for those that are left.
-use Prim.Native.Nat.{◌≤◌}
-use Rattle.answers.proofs.Asking.{Checked}
-use Rattle.ship.specs.Questions.{deck_check}
-use Rattle.ship.proofs.decks_check.Given as goal
-
-abbrev pub invariant-decks : goal.invariant-decks
-invariant-decks l = (l.d ≤ l.decks) × Checked (deck_check l.file) l.decks l.d
