@@ -66,7 +66,7 @@ fn locate(ship: &Ship<'_>, p: Vec2, deck: u32) -> Option<u32>
     None
 }
 
-// The packed polygon, or all ones, the number of none that document 01 gives to the call, and C to its caller.
+// The packed polygon; all ones where there is none, as document 01 and C have it.
 pub fn get_point_location(file: &[u8], p: Vec2, deck: u32) -> Result<u32, Refusal>
     ensures { result ≡ location_of file.now p deck }
 {
