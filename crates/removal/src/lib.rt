@@ -19,8 +19,8 @@ use ship::{
 };
 use unstitched::{OldDeck, Rule, Stitches};
 
-// The `size` bytes of the file from `from` on, put at `at`. Returns the position after them. `copy_from_slice` in words::copy does it; this says where the
-// next part begins.
+// The `size` bytes of the file from `from` on, put at `at`. Returns the position after them. `words::copy` does it; this says where the next part
+// begins.
 fn copy_part(file: &[u8], from: usize, size: usize, at: usize, out: &mut [u8]) -> usize
     requires { (from + size ≤ length file.now) × (at + size ≤ length out.old) }
     ensures { Put out.old at (slice file.now from size) out.new result }
