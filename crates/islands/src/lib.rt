@@ -173,11 +173,13 @@ pub fn label_all(deck: &Deck<'_>, out: &mut [u8], work: &mut [u8])
     ensures { LabelsPut deck.now out.old out.new
         work.old work.new }
 {
+    // A deck of the walks' own, since what is borrowed is read anew after each write.
+    let own = deck.own();
     let n = deck.polygon_count();
     no_labels(out, n);
     let mut tail: usize = 0;
     'starts: for i in 0..n {
-        tail = walk(deck, i, tail, out, work);
+        tail = walk(&own, i, tail, out, work);
     }
     words::clear(work);
 }
