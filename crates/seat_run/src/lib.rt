@@ -159,8 +159,10 @@ pub struct Lists<'a> {
 // Seat i is placed, and its record written at its place in the output.
 pub fn put_seat(run: &SeatRun<'_>, i: usize, out: &mut [u8], lists: &mut Lists<'_>) -> SeatRecord
     requires { RecordsRoom run.now.seats.now out.old × (i < seat_count run.now.seats.now) }
-    ensures { (result ≡ record_of_seat (decode run.now.ship.now) run.now.blocked.now run.now.seats.now i)
+    ensures recorded { (result ≡ record_of_seat (decode run.now.ship.now) run.now.blocked.now run.now.seats.now i)
         × (out.new ≡ splice out.old (record_size * i) (record_bytes result)) }
+    ensures lengths { (length lists.new.kept.now ≡ length lists.old.kept.now)
+        × (length lists.new.near.now ≡ length lists.old.near.now) }
 {
     let listed = ListedSeat {
         seats: run.seats,

@@ -4,4 +4,4 @@ use Rattle.decks.proofs.Ship.deck.Goals as goal
 
 pub returns-clause-within : goal.returns-clause-within
 returns-clause-within c =
-    opened_within c.self.inside.file.now c.self.invariant (rw c.self.view_is c.requires) c.blocks_at.ensures.0
+    rw c.at.ensures (opened_within c.self.inside.file.now c.self.invariant (rw c.self.view_is c.requires) c.blocks_at.ensures.0)
